@@ -2,7 +2,8 @@
 committed, done one after another in the order of the stamps, gives exactly what is listed in the end. So nothing that
 was answered is lost, whatever came between. `rows/chances.py PROGRAM [--plain | --restarts] [SCRIPTS]` says how many
 differ; with --plain the store isn't checked, and many do. With --restarts the store restarts now and then: a write that
-isn't answered is done then exactly where each partition that got a part of it has prepared that."""
+isn't answered is done then exactly where each partition that got a part of it has prepared that. What is shown has the
+stamp of the write that made it so, in whatever epoch that was."""
 import json
 import pathlib
 import random
@@ -19,6 +20,7 @@ ALBUMS = ("album/0", "album/1")
 PLAIN = ["allow", "EVERYONE@", ALL, 0]  # for a picture, which passes nothing on
 NO_MESSAGE = {"name": "NoSuchMessage", "refused": 14}
 NEVER = 4_000_000_000  # the number of a message that there never is
+LOOKED_AT = 3  # of how many pictures the stamps are looked at
 
 
 class Script:
@@ -124,12 +126,20 @@ class Script:
         while self.sent:
             self.event({"deliver": self.sent.pop(0)})
 
-    def listed(self, number):
-        """What is listed in the end, by a client that has asked nothing before."""
-        self.ask(4, {"do": "list", "album": number})
+    def answer_to(self, asked):
+        """What a client is answered in the end that has asked nothing before."""
+        self.ask(4, asked)
         self.settles()
-        want("listed", self.answers[-1]["answer"], "the last answer")
-        return sorted(self.answers[-1]["rows"])
+        return self.answers[-1]
+
+    def listed(self, number):
+        answer = self.answer_to({"do": "list", "album": number})
+        want("listed", answer["answer"], "the last answer")
+        return sorted(answer["rows"])
+
+    def stamps_of(self, of):
+        """At which stamps a picture and its list are shown."""
+        return tuple(self.answer_to({"do": how, "object": of})["stamp"] for how in ("read", "get_list"))
 
     def ends(self):
         self.run.stdin.close()
@@ -138,19 +148,30 @@ class Script:
 
 
 def done_in_order(done):
-    """The albums with their pictures and titles, once what was committed is done in the order of the stamps."""
+    """The albums with their pictures and titles, once what was committed is done in the order of the stamps; and of each
+    picture the stamps at which it and its list were written last."""
     title, home = {"picture/0": "Sea", "picture/1": "Sky"}, {"picture/0": "album/0", "picture/1": "album/1"}
+    stamps, lists = dict.fromkeys(title, 0), dict.fromkeys(title, 0)
     for stamp, asked in sorted(done, key=lambda row: row[0]):
         match asked["do"]:
             case "add_picture":
-                title[f"picture/{stamp}"], home[f"picture/{stamp}"] = asked["title"], asked["album"]
+                made = f"picture/{stamp}"
+                title[made], home[made] = asked["title"], asked["album"]
+                stamps[made] = lists[made] = stamp
             case "retitle":
                 title[asked["object"]] = asked["title"]
+                stamps[asked["object"]] = stamp
+            case "replace":
+                stamps[asked["object"]] = stamp
             case "move":
                 home[asked["object"]] = asked["to"]
+                stamps[asked["object"]] = stamp
+            case "set_lists":
+                lists[asked["lists"][0][0]] = stamp
             case "delete":
                 del home[asked["object"]]
-    return {number: sorted([of, title[of]] for of in home if home[of] == number) for number in ALBUMS}
+    listed = {number: sorted([of, title[of]] for of in home if home[of] == number) for number in ALBUMS}
+    return listed, {of: (stamps[of], lists[of]) for of in sorted(home)}
 
 
 def script(program, is_checked, seed, restarts=0.0):
@@ -161,11 +182,14 @@ def script(program, is_checked, seed, restarts=0.0):
         if restarts and run.chance.random() < restarts:
             run.restarts()
     run.settles()
-    wanted = done_in_order(run.done)
+    wanted, stamps = done_in_order(run.done)
     got = {number: run.listed(number) for number in ALBUMS}
+    some = random.Random(seed).sample(list(stamps), min(len(stamps), LOOKED_AT))
+    shown = {of: run.stamps_of(of) for of in some} if wanted == got else {}
     aborted = sum(answer.get("answer") == "aborted" for answer in run.answers)
     run.ends()
     want(wanted, got, f"what is listed after script {seed}")
+    want({of: stamps[of] for of in some}, shown, f"the stamps that are shown after script {seed}")
     return aborted, run.carried, run.let_go
 
 

@@ -127,7 +127,8 @@ def names_in(folder):
 def goes_on(program, folder):
     """A service is killed, and the next one has what was written, in the next epoch. That before the last is gone."""
     with Service(program, opening(2), 65535, "--data", str(folder)) as service:
-        want("committed", ask(service, {"do": "retitle", "object": "picture/0", "title": "Lake"})["answer"], "a retitle")
+        lake = ask(service, {"do": "retitle", "object": "picture/0", "title": "Lake"})
+        want("committed", lake["answer"], "a retitle")
         made = ask(service, {"do": "add_picture", "album": "album/0", "title": "New", "content": "ab"})
     made = f"picture/{made['stamp']}"
     with served(program, folder) as service:
@@ -135,6 +136,8 @@ def goes_on(program, folder):
         want("committed", ask(service, {"do": "delete", "object": made})["answer"], "a deletion")
     with served(program, folder) as service:
         want([["picture/0", "Lake"]], listed_in(service), "a listing")
+        shown = ask(service, {"do": "read", "object": "picture/0"})
+        want(lake["stamp"], shown["stamp"], "the stamp of what was written two epochs before")
         another = ask(service, {"do": "add_picture", "album": "album/0", "title": "Newer", "content": ""})["stamp"]
     want(True, another > int(made[8:]), "that no number is given twice")
     want(["epoch-2.log", "epoch-2.opening", "epoch-3.log", "epoch-3.opening", "lock"], names_in(folder), "the files")
@@ -146,7 +149,8 @@ def goes_on(program, folder):
 
 
 def logs_by_hand(program, folder):
-    """Each write by itself: (how many partitions, the log, the title of picture/0 and that of album/0)."""
+    """Each write by itself: (how many partitions, the log, the title of picture/0 and that of album/0, and the stamps
+    at which they are shown)."""
     # Of two partitions picture/0 is at 0, and album/0 at 1.
     both = ["picture/0", "album/0"]
     trip = {"children": ["picture/0"], "group": 0, "home": None, "list": 1, "owner": "amy@users", "title": "Tour"}
@@ -155,35 +159,36 @@ def logs_by_hand(program, folder):
     own = line(0, 65538, ["picture/0"], ["picture/0", hill])
     older = line(0, 131073, ["picture/0"], ["picture/0", lake])
     newer = line(0, 131074, ["picture/0"], ["picture/0", hill])
-    for name, parts, log, titles in (
-            ("nothing", 2, b"", ("Sea", "Trip")),
-            ("zeros", 2, bytes(5000), ("Sea", "Trip")),
-            ("a write at one partition", 2, own, ("Hill", "Trip")),
-            ("a half of a write", 2, at_0, ("Sea", "Trip")),
-            ("the other half", 2, at_1, ("Sea", "Trip")),
-            ("both halves", 2, at_1 + at_0, ("Lake", "Tour")),
-            ("a half, and a greater stamp", 2, at_0 + own, ("Hill", "Trip")),
-            ("both halves, and a greater stamp", 2, own + at_0 + at_1, ("Hill", "Tour")),
-            ("two stamps", 1, older + newer, ("Hill", "Trip")),
-            ("two stamps, the greater one first", 1, newer + older, ("Hill", "Trip")),
-            ("a line twice", 2, own + own, ("Hill", "Trip")),
+    for name, parts, log, titles, stamps in (
+            ("nothing", 2, b"", ("Sea", "Trip"), (0, 0)),
+            ("zeros", 2, bytes(5000), ("Sea", "Trip"), (0, 0)),
+            ("a write at one partition", 2, own, ("Hill", "Trip"), (65538, 0)),
+            ("a half of a write", 2, at_0, ("Sea", "Trip"), (0, 0)),
+            ("the other half", 2, at_1, ("Sea", "Trip"), (0, 0)),
+            ("both halves", 2, at_1 + at_0, ("Lake", "Tour"), (65537, 65537)),
+            ("a half, and a greater stamp", 2, at_0 + own, ("Hill", "Trip"), (65538, 0)),
+            ("both halves, and a greater stamp", 2, own + at_0 + at_1, ("Hill", "Tour"), (65538, 65537)),
+            ("two stamps", 1, older + newer, ("Hill", "Trip"), (131074, 0)),
+            ("two stamps, the greater one first", 1, newer + older, ("Hill", "Trip"), (131074, 0)),
+            ("a line twice", 2, own + own, ("Hill", "Trip"), (65538, 0)),
             ("a stamp twice, of which the first counts", 1, older + line(0, 131073, ["picture/0"], ["picture/0", hill]),
-             ("Lake", "Trip")),
-            ("a torn line behind", 2, own + at_0[:-1], ("Hill", "Trip")),
+             ("Lake", "Trip"), (131073, 0)),
+            ("a torn line behind", 2, own + at_0[:-1], ("Hill", "Trip"), (65538, 0)),
             ("a torn line, and a whole one behind it", 2, own + at_0[:40] + bytes(len(at_0) - 40) + at_1,
-             ("Hill", "Trip")),
-            ("a picture that is missing", 1, line(0, 65537, ["picture/0"], ["picture/0", None]), (None, "Trip")),
+             ("Hill", "Trip"), (65538, 0)),
+            ("a picture that is missing", 1, line(0, 65537, ["picture/0"], ["picture/0", None]), (None, "Trip"),
+             (None, 0)),
             ("letters beyond ASCII", 1, line(0, 65537, ["picture/0"], ["picture/0", picture("Nær Ærø ☃")]),
-             ("Nær Ærø ☃", "Trip"))):
+             ("Nær Ærø ☃", "Trip"), (65537, 0))):
         for file in folder.iterdir():
             file.unlink()
         folder_with(folder, opening(parts), log)
         with served(program, folder) as service:
-            shown = ask(service, {"do": "read", "object": "picture/0"}).get("title")
-            want(titles[0], shown, f"the picture after {name}")
-            want(titles[1], json.loads([row for row in (folder / "epoch-2.opening").read_bytes().splitlines()
-                                        if b'"album/0"' in row and b'"value"' in row][0])["value"]["title"],
-                 f"the album after {name}")
+            shown = ask(service, {"do": "read", "object": "picture/0"})
+            want((titles[0], stamps[0]), (shown.get("title"), shown.get("stamp")), f"the picture after {name}")
+            row = json.loads([row for row in (folder / "epoch-2.opening").read_bytes().splitlines()
+                              if b'"album/0"' in row and b'"value"' in row][0])
+            want((titles[1], stamps[1]), (row["value"]["title"], row["stamp"]), f"the album after {name}")
 
 
 def damaged(program, folder):

@@ -1,5 +1,5 @@
-"""A service that is killed while it writes, and started again on its folder: nothing that was answered is lost, and no
-write is there in part. Run by itself, `rows/kills.py PROGRAM [KILLS] [SEED]` says how each life ended."""
+"""A service that is killed while it writes, and started again on its folder: nothing that was answered is lost, no write
+is there in part, and each is shown at the stamp that was answered. Run by itself, `rows/kills.py PROGRAM [KILLS] [SEED]` says how each life ended."""
 import json
 import pathlib
 import random
@@ -35,6 +35,8 @@ class Seen:
         self.pairs = {}                                 # of each pair: the greatest that was answered, and asked
         self.added = set()                              # additions that were answered committed
         self.reads = {n: 0 for n in range(PICTURES)}    # the greatest that was ever read
+        self.stamps = {}                                # of a picture and its title: the stamp that was answered
+        self.shown = {n: 0 for n in range(PICTURES)}    # the stamp at which a life showed it
 
 
 def retitles(connection, seen, number, stop):
@@ -47,6 +49,7 @@ def retitles(connection, seen, number, stop):
         if answer.get("answer") == "committed":
             with seen.lock:
                 seen.titles[number] = max(seen.titles[number], title)
+                seen.stamps[number, title] = answer["stamp"]
 
 
 def pairs(connection, seen, one, other, stop):
@@ -101,9 +104,14 @@ def checked(connection, seen):
             raise Differs(f"picture/{number} has the title {shown}: {seen.titles[number]} was answered committed, "
                           f"{seen.reads[number]} was read, {seen.asked[number]} was the last that was asked")
         seen.titles[number] = seen.reads[number] = shown
+        want(seen.stamps.setdefault((number, shown), answer["stamp"]), answer["stamp"],
+             f"the stamp of picture/{number} with the title {shown}")
+        if answer["stamp"] < seen.shown[number]:
+            raise Differs(f"picture/{number} goes back from the stamp {seen.shown[number]} to {answer['stamp']}")
+        seen.shown[number] = answer["stamp"]
     for one, other in ((0, 1), (2, 3)):
-        both = [connection.ask({"ask": {"do": "get_list", "object": f"picture/{n}"}})["entries"] for n in (one, other)]
-        want(*both, f"the lists of picture/{one} and picture/{other}")
+        both = [connection.ask({"ask": {"do": "get_list", "object": f"picture/{n}"}}) for n in (one, other)]
+        want(*((of["entries"], of["stamp"]) for of in both), f"the lists of picture/{one} and picture/{other}")
     rows = {item for item, _ in connection.ask({"ask": {"do": "list", "album": "album/0"}})["rows"]}
     missing = seen.added - rows
     if missing:

@@ -62,6 +62,10 @@ def titles_in(connection):
     return [connection.ask({"ask": {"do": "read", "object": f"picture/{n}"}})["title"] for n in range(1, PICTURES)]
 
 
+def stamps_in(connection):
+    return [connection.ask({"ask": {"do": "read", "object": f"picture/{n}"}})["stamp"] for n in range(1, PICTURES)]
+
+
 def turns_under_load(program, folder, count=600):
     """Five connections write, and one has nothing to say until all is over. All are answered in the epochs that come, and
     a start finds what was written."""
@@ -78,6 +82,7 @@ def turns_under_load(program, folder, count=600):
         if wrong:
             raise wrong[0]
         want([str(count)] * (PICTURES - 1), titles_in(silent), "the titles that one sees who was silent")
+        stamps = stamps_in(silent)
         for connection in [silent, *connections]:
             connection.finish()
         # Each write makes two marks, at one partition of two at least.
@@ -88,6 +93,7 @@ def turns_under_load(program, folder, count=600):
     with served(program, folder) as service:
         connection = greeted(service)
         want([str(count)] * (PICTURES - 1), titles_in(connection), "the titles after a start")
+        want(stamps, stamps_in(connection), "their stamps")
         connection.finish()
 
 

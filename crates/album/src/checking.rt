@@ -1,5 +1,7 @@
 //! The subcommand `check-data`: whether a service would begin on a folder, and on what.
-use crate::data::{Unbegun, end_of, newest_of, open_folder, read_log, repair, what_follows};
+use crate::data::{
+    Unbegun, end_of, newest_of, open_folder, read_epoch, read_log, repair, what_follows,
+};
 use album_commands::status;
 use album_data::{Folder, FolderError};
 use album_judge::Fault;
@@ -62,7 +64,8 @@ fn found_in(
     epoch: u64,
 ) -> Result<Found, Unbegun> {
     let text = read_log(rt, alloc, folder, epoch)?;
-    let next = what_follows(rt, alloc, folder, epoch, &text)?;
+    let opening = read_epoch(rt, alloc, folder, epoch)?;
+    let next = what_follows(rt, alloc, folder, epoch, &opening, &text)?;
     Ok(Found {
         epoch,
         lines: text.iter().filter(|byte| **byte == b'\n').count() as u64,

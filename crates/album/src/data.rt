@@ -12,12 +12,14 @@ use sqlite_std_file::File as DiskFile;
 use std::alloc::{AllocError, Global};
 use std::io::{Read, Write};
 use std::process::ExitCode;
+use std::sync::Arc;
 
 /// An epoch of a folder: what it opens on, and its log.
 #[derive(Drop)]
 pub(crate) struct Epoch {
     pub number: u64,
-    pub opening: Opening,
+    /// The next epoch begins on it too, so it is kept while this one is served.
+    pub opening: Arc<Opening, Global>,
     pub log: FileLog<DiskFile>,
     /// The path of the log's file.
     pub log_path: String,
@@ -91,20 +93,37 @@ pub(crate) fn begin<R: Read, W: Write>(
             let opening = read_first(rt, alloc, file, reader, writer)?;
             epoch_on(rt, alloc, folder, 1, opening)
         }
-        Some(number) => begin_after(rt, alloc, folder, number),
+        Some(number) => {
+            let text = read_log(rt, alloc, folder, number)?;
+            let opening = read_epoch(rt, alloc, folder, number)?;
+            epoch_after(rt, alloc, folder, number, &opening, &text)
+        }
     }
 }
 
-/// Begins the epoch after the one of this number.
+/// Begins the epoch after the one of this number, which opened on this.
 pub(crate) fn begin_after(
     rt: &HostRuntime,
     alloc: Global,
     folder: &Folder,
     number: u64,
+    opening: &Opening,
 ) -> Result<Epoch, Unbegun> {
     let text = read_log(rt, alloc, folder, number)?;
-    let opening = what_follows(rt, alloc, folder, number, &text)?;
-    epoch_on(rt, alloc, folder, number.saturating_add(1), opening)
+    epoch_after(rt, alloc, folder, number, opening, &text)
+}
+
+/// The epoch after the one of this number, which opened on this, and whose log has this text.
+fn epoch_after(
+    rt: &HostRuntime,
+    alloc: Global,
+    folder: &Folder,
+    number: u64,
+    opening: &Opening,
+    text: &[u8],
+) -> Result<Epoch, Unbegun> {
+    let next = what_follows(rt, alloc, folder, number, opening, text)?;
+    epoch_on(rt, alloc, folder, number.saturating_add(1), next)
 }
 
 /// Begins the epoch after the one of this number, on so many lines of its log. The log stays as it is.
@@ -120,8 +139,9 @@ pub(crate) fn repair(
         let name = path_or_memory(folder.log_path(rt, number))?;
         return Err(Unbegun::Short(name, lines));
     };
-    let opening = what_follows(rt, alloc, folder, number, text.get(..end).unwrap_or(&text))?;
-    let _begun = epoch_on(rt, alloc, folder, number.saturating_add(1), opening)?;
+    let opening = read_epoch(rt, alloc, folder, number)?;
+    let text = text.get(..end).unwrap_or(&text);
+    let _begun = epoch_after(rt, alloc, folder, number, &opening, text)?;
     Ok(())
 }
 
@@ -185,17 +205,17 @@ pub(crate) fn read_log(
     read_text(alloc, &mut disk).map_err(|error| Unbegun::Log(name, error))
 }
 
-/// What the epoch of this number leaves to the next one, where its log has this text.
+/// What the epoch of this number leaves to the next one, where it opened on this, and its log has this text.
 pub(crate) fn what_follows(
     rt: &HostRuntime,
     alloc: Global,
     folder: &Folder,
     number: u64,
+    opening: &Opening,
     text: &[u8],
 ) -> Result<Opening, Unbegun> {
-    let opening = read_epoch(rt, alloc, folder, number)?;
     let name = path_or_memory(folder.log_path(rt, number))?;
-    match next_opening(alloc, &opening, text) {
+    match next_opening(alloc, opening, text) {
         Ok(next) => match next.check() {
             Ok(()) => Ok(next),
             Err(why) => Err(Unbegun::BadOpening(name, why)),
@@ -211,7 +231,7 @@ pub(crate) fn what_follows(
 }
 
 /// The opening of the epoch of this number.
-fn read_epoch(
+pub(crate) fn read_epoch(
     rt: &HostRuntime,
     alloc: Global,
     folder: &Folder,
@@ -267,7 +287,7 @@ fn epoch_on(
     }
     Ok(Epoch {
         number,
-        opening,
+        opening: Arc::new(alloc, opening).map_err(|_| Fault::Memory)?,
         log: FileLog::new(alloc, log)?,
         log_path: name,
     })

@@ -16,7 +16,7 @@ use std::io::{Read, Write};
 use std::net::{Net, TcpListener, TcpStream};
 use std::process::ExitCode;
 use std::rt::Files;
-use std::sync::Wait;
+use std::sync::{Arc, Wait};
 use std::thread::Threads;
 use std::time;
 
@@ -156,11 +156,12 @@ fn serve_epochs<T: Host, W: Write>(
     let (mut epoch, mut audit) = (first, audit);
     for _ in rt.forever() {
         let number = epoch.number;
+        let opening = Arc::try_clone(&epoch.opening)?;
         match serve_epoch(rt, alloc, epoch, log_most(matches), port, writer, audit) {
             Ok(EpochEnd::Turned) => {}
             ended => return Ok(ended),
         }
-        epoch = begin_after(host, alloc, folder, number)?;
+        epoch = begin_after(host, alloc, folder, number, &opening)?;
         audit = audit_file(&rt, alloc, matches)?;
     }
     // `forever` has no end.

@@ -5,7 +5,7 @@ ghost use Rattle.album_stamps.specs.declared.limits.TheConstants.{MAX_PARTS};
 use crate::draws::Draws;
 use crate::values::value_of;
 use album_epochs::fold;
-use album_items::{ItemId, ItemValues, Items, Kind, Value, place};
+use album_items::{FirstStamps, ItemId, ItemValues, Items, Kind, Value, place};
 use album_lists::whole_number;
 use album_partition::Mark;
 use album_stamps::{ClientNo, MAX_PARTS, Refusal, Stamp};
@@ -78,7 +78,8 @@ impl End {
         if lent.is_empty() || lent.len() > MAX_PARTS as usize {
             return Err(Refusal::BadRequest);
         }
-        let rows = fold(self.alloc, self.first.as_slice(), &lent)?;
+        let stamps = FirstStamps::new(self.alloc);
+        let (rows, _) = fold(self.alloc, self.first.as_slice(), &stamps, &lent)?;
         Ok(rows.as_slice().len() as u64)
     }
 }

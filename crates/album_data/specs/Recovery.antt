@@ -6,7 +6,7 @@ use Rattle.album_items.specs.declared.openings.Opening.{Opening}
 use Rattle.album_partition.specs.Marks.{prepares, prepare_in}
 use Rattle.album_partition.specs.declared.marks.Mark.{Mark}
 use Rattle.album_partition.specs.declared.marks.Mark.TheVariants.{Prepared}
-use Rattle.album_epochs.specs.Folding.{stamp_in, AreFolded}
+use Rattle.album_epochs.specs.Folding.{stamp_in, AreFolded, AreFoldedStamps}
 use Rattle.album_keepers.specs.declared.log_entries.LogEntry.{LogEntry}
 use Rattle.album_log.specs.Seals.{sealed}
 use Rattle.album_wire.specs.MarkLine.{mark_line_of}
@@ -58,7 +58,7 @@ pub record AreLogged (parts : ℕ) (entries : List LogEntry) (histories : List (
 -- ---- the next opening
 
 -- The opening with which the next epoch begins: the counts and the policy stay, the clocks begin above all that were
--- drawn before, as far as the log has them, and the rows are what the log leaves, folded.
+-- drawn before, as far as the log has them, and the rows and their stamps are what the log leaves, folded.
 pub record IsOpenedAfter (opening : Opening) (entries : List LogEntry) (next : Opening) : Type 0 where
   pub parts : next.parts ≡ opening.parts
   pub limit : next.limit ≡ opening.limit
@@ -69,3 +69,4 @@ pub record IsOpenedAfter (opening : Opening) (entries : List LogEntry) (next : O
   pub histories : List (List Mark)
   pub logged : AreLogged opening.parts entries histories
   pub rows : AreFolded opening.items histories next.items
+  pub stamps : AreFoldedStamps opening.stamps opening.items histories next.stamps

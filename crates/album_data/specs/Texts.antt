@@ -1,6 +1,7 @@
 -- The text of an opening, and the line of an entry in a log.
 use Rattle.std.specs.Prelude.{◌≡◌, ◌≢◌, ℕ, ◌-◌, List, [], ◌∷◌, ◌++◌, length, take, slice_index, EachIndex, false}
 use Rattle.std.specs.List.{flat_map}
+use Rattle.album_items.specs.FirstStamps.{Stamps, first_stamp}
 use Rattle.album_items.specs.Openings.{Row}
 use Rattle.album_items.specs.declared.openings.Opening.{Opening}
 use Rattle.album_partition.specs.declared.marks.Mark.{Mark}
@@ -27,14 +28,14 @@ header_of opening = record {
   trace = false;
 }
 
--- the items with their values, a line each
-abbrev pub rows_text : List Row → List ℕ
-rows_text rows = flat_map (λ row. opening_text (line.Item row.0 row.1)) rows
+-- the items with their values and the stamps of these, a line each
+abbrev pub rows_text : Stamps → List Row → List ℕ
+rows_text stamps rows = flat_map (λ row. opening_text (line.Item row.0 (first_stamp stamps row.0) row.1)) rows
 
 -- the header, the items, and that these are all
 abbrev pub text_of_opening : Opening → List ℕ
 text_of_opening opening =
-    opening_text (line.Open (header_of opening)) ++ (rows_text opening.items ++ opening_text line.Begin)
+    opening_text (line.Open (header_of opening)) ++ (rows_text opening.stamps opening.items ++ opening_text line.Begin)
 
 -- ---- an entry
 

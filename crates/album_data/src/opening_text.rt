@@ -3,8 +3,8 @@ ghost use Rattle.std.specs.Prelude.{◌≡◌, ◌++◌, List, IfOk, OnOk, IsOkU
 ghost use Rattle.std.specs.List.{flat_map};
 ghost use Rattle.album_data.specs.Texts.{text_of_opening, header_of, rows_text};
 
-use album_items::{ItemId, Opening, Value};
-use album_stamps::Refusal;
+use album_items::{FirstStamps, ItemId, Opening, Value};
+use album_stamps::{Refusal, Stamp};
 use album_wire::{Header, write_begin, write_first_value, write_header};
 use std::alloc::Global;
 
@@ -18,7 +18,7 @@ pub fn text_of_opening(alloc: Global, opening: &Opening) -> Result<Vec<u8>, Refu
     ensures memory { IsOkUnless result Refusal.OutOfMemory }
 {
     let mut text = write_header(alloc, header_of(opening))?;
-    add_rows(alloc, &mut text, opening.items.as_slice())?;
+    add_rows(alloc, &mut text, opening.items.as_slice(), &opening.stamps)?;
     let last = write_begin(alloc)?;
     text.extend_from_slice(&last)?;
     Ok(text)
@@ -38,13 +38,19 @@ fn header_of(opening: &Opening) -> Header
     }
 }
 
-/// Adds the line of each row.
-fn add_rows(alloc: Global, text: &mut Vec<u8>, rows: &[(ItemId, Value)]) -> Result<(), Refusal>
-    ensures text { OnOk result (text.new.items ≡ text.old.items ++ rows_text rows.now) }
+/// Adds the line of each row, with the stamp of its value.
+fn add_rows(
+    alloc: Global,
+    text: &mut Vec<u8>,
+    rows: &[(ItemId, Value)],
+    stamps: &FirstStamps,
+) -> Result<(), Refusal>
+    ensures text { OnOk result (text.new.items ≡ text.old.items ++ rows_text stamps.now rows.now) }
     ensures memory { IsOkUnless result Refusal.OutOfMemory }
 {
     for row in rows {
-        let line = write_first_value(alloc, row.0, &row.1)?;
+        let stamp = stamps.shown(row.0, Stamp::zero());
+        let line = write_first_value(alloc, row.0, stamp, &row.1)?;
         text.extend_from_slice(&line)?;
     }
     Ok(())

@@ -4,14 +4,14 @@ ghost use Rattle.album_stamps.specs.Stamps.{counter_of};
 ghost use Rattle.album_stamps.specs.declared.limits.TheConstants.{MAX_PARTS};
 ghost use Rattle.album_partition.specs.Marks.{prepare_in};
 ghost use Rattle.album_partition.specs.declared.marks.Mark.{Mark as Made};
-ghost use Rattle.album_epochs.specs.Folding.{stamp_in, ArePrepared, AreFolded};
+ghost use Rattle.album_epochs.specs.Folding.{stamp_in, ArePrepared, AreFolded, AreFoldedStamps};
 ghost use Rattle.album_keepers.specs.declared.log_entries.LogEntry.{LogEntry as Entry};
 ghost use Rattle.album_data.specs.Texts.{IsLine};
 ghost use Rattle.album_data.specs.Recovery.{AreEntryLines, IsEntryLine, AreLogged, IsOpenedAfter, with_mark, marks_after};
 
 use crate::entries::{is_line, read_entry};
 use album_epochs::fold;
-use album_items::{ItemId, ItemValues, Opening, Value};
+use album_items::{FirstStamps, ItemId, ItemValues, Opening, Value};
 use album_keepers::LogEntry;
 use album_partition::Mark;
 use album_stamps::{MAX_COUNTER, MAX_PARTS, Refusal, Stamp};
@@ -52,7 +52,8 @@ where
 }
 
 /// The opening with which the next epoch begins, after one that opened on this, and whose log has this text of whole
-/// lines. The counts and the policy stay. The rows are what the log has, folded.
+/// lines. The counts and the policy stay. The rows and their stamps are what the log has,
+/// folded.
 ///
 /// # Errors
 ///
@@ -67,7 +68,7 @@ pub fn next_opening(alloc: Global, opening: &Opening, text: &[u8]) -> Result<Ope
     if greatest >= MAX_COUNTER - MARGIN {
         return Err(Unread::Spent);
     }
-    let items = rows_after(alloc, opening, parts, &entries)?;
+    let (items, stamps) = rows_after(alloc, opening, parts, &entries)?;
     Ok(Opening {
         parts: opening.parts,
         limit: opening.limit,
@@ -75,6 +76,7 @@ pub fn next_opening(alloc: Global, opening: &Opening, text: &[u8]) -> Result<Ope
         checked: opening.checked,
         first: greatest + MARGIN,
         items,
+        stamps,
     })
 }
 
@@ -184,7 +186,7 @@ fn counter_in(mark: &Mark) -> u64
     }
 }
 
-/// What the entries leave, folded on the rows of the opening, which has so many partitions.
+/// What the entries leave, folded on the rows of the opening and their stamps, which has so many partitions.
 ///
 /// # Errors
 ///
@@ -194,17 +196,18 @@ fn rows_after(
     opening: &Opening,
     parts: u16,
     entries: &[LogEntry],
-) -> Result<ItemValues, Unread>
+) -> Result<(ItemValues, FirstStamps), Unread>
     requires some { 1 ≤ parts }
     requires few { parts ≤ MAX_PARTS }
-    ensures { IfOk result (λ rows. (histories : List (List Made)) × AreLogged parts entries.now histories
-        × AreFolded opening.now.items histories rows) }
+    ensures { IfOk result (λ fold. (histories : List (List Made)) × AreLogged parts entries.now histories
+        × (AreFolded opening.now.items histories fold.0
+        × AreFoldedStamps opening.now.stamps opening.now.items histories fold.1)) }
 {
     let histories = histories_of(alloc, parts, entries)?;
-    folded(alloc, opening.items.as_slice(), &histories)
+    folded(alloc, opening.items.as_slice(), &opening.stamps, &histories)
 }
 
-/// These histories, folded on these rows.
+/// These histories, folded on these rows and their stamps.
 ///
 /// # Errors
 ///
@@ -212,17 +215,23 @@ fn rows_after(
 fn folded(
     alloc: Global,
     first: &[(ItemId, Value)],
+    stamps: &FirstStamps,
     histories: &[Vec<Mark>],
-) -> Result<ItemValues, Unread>
+) -> Result<(ItemValues, FirstStamps), Unread>
     requires some { 1 ≤ length histories.now }
     requires few { length histories.now ≤ MAX_PARTS }
-    ensures { IfOk result (AreFolded first.now (map (λ marks. marks.items) histories.now)) }
+    ensures rows { IfOk result (λ fold. AreFolded first.now (map (λ marks. marks.items) histories.now) fold.0) }
+    ensures stamps { IfOk result (λ fold.
+        AreFoldedStamps stamps.now first.now (map (λ marks. marks.items) histories.now) fold.1) }
 {
     let mut lent = Vec::new(alloc);
     for marks in histories {
         lent.push(marks.as_slice())?;
     }
-    fold(alloc, first, &lent).map_err(|_| Unread::OutOfMemory)
+    match fold(alloc, first, stamps, &lent) {
+        Ok(fold) => Ok(fold),
+        Err(_) => Err(Unread::OutOfMemory),
+    }
 }
 
 /// The history of each partition, in order.

@@ -6,6 +6,8 @@ pub mod ChainedLemmas
 pub mod FoundLemmas
 pub mod FoldLemmas
 pub mod RowLemmas
+pub mod StampLemmas
+pub mod StayLemmas
 pub mod NextLemmas
 pub mod BaseLemmas
 pub mod GreatestLemmas

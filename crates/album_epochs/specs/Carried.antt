@@ -5,6 +5,7 @@ use Rattle.std.specs.List.{list_any, list_all}
 use Rattle.std.specs.List.Sorted.{IsStrictlySortedBy}
 use Rattle.std.specs.Option.{option_map_or, unwrap_or}
 use Rattle.std.specs.Ordering.{nat_cmp}
+use Rattle.album_items.specs.FirstStamps.{Stamps, first_stamp, shown}
 use Rattle.album_items.specs.Openings.{Row}
 use Rattle.album_items.specs.Transactions.{items_written}
 use Rattle.album_items.specs.Values.{is_there}
@@ -73,6 +74,13 @@ pub record AreNextRows (cut : Cut) (rows : List Row) : Type 0 where
   pub rising : IsStrictlySortedBy nat_cmp (items_written rows)
   pub values : (item : ℕ) → first_value rows item ≡ carried_value cut item
   pub there : list_all (λ row. is_there row.1) rows ≡ true
+
+-- The stamps that the next epoch shows for its rows: of each item that isn't missing, as it is carried, the stamp that
+-- this epoch shows. So one that this epoch has left alone keeps its stamp.
+abbrev pub AreNextStamps : Cut → Stamps → Stamps → Type 0
+AreNextStamps cut stamps next =
+    (item : ℕ) → first_stamp next item
+    ≡ (if is_there (carried_value cut item) then shown stamps item (carried_stamp cut item) else 0)
 
 -- the row is as the item is carried
 pub record IsCarriedRow (cut : Cut) (row : ReadVersion) : Type 0 where

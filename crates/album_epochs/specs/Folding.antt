@@ -10,6 +10,7 @@ use Rattle.std.specs.List.Sorted.{IsStrictlySortedBy}
 use Rattle.std.specs.Option.{option_map_or, unwrap_or}
 use Rattle.std.specs.Ordering.{nat_cmp}
 use Rattle.album_items.specs.ItemIds.{place_of}
+use Rattle.album_items.specs.FirstStamps.{Stamps, first_stamp, shown}
 use Rattle.album_items.specs.Openings.{Row}
 use Rattle.album_items.specs.Transactions.{items_written}
 use Rattle.album_items.specs.Values.{is_there}
@@ -89,6 +90,16 @@ pub record AreFolded (first : List Row) (histories : List (List Mark)) (rows : L
   pub rising : IsStrictlySortedBy nat_cmp (items_written rows)
   pub values : (item : ℕ) → first_value rows item ≡ value_kept (newest_of histories (first_kept first) item)
   pub there : list_all (λ row. is_there row.1) rows ≡ true
+
+-- the stamp to show of what was found of an item, unless that is missing
+abbrev pub stamp_left : Stamps → ℕ → Option Kept → ℕ
+stamp_left stamps item None = 0
+stamp_left stamps item (Some kept) = if is_there kept.1 then shown stamps item kept.0 else 0
+
+-- the stamps of these rows: of each as what was found of it shows
+abbrev pub AreFoldedStamps : Stamps → List Row → List (List Mark) → Stamps → Type 0
+AreFoldedStamps stamps first histories next =
+    (item : ℕ) → first_stamp next item ≡ stamp_left stamps item (newest_of histories (first_kept first) item)
 
 -- what a map has of an item
 abbrev pub kept_in : BTreeMap ℕ Kept → ℕ → Option Kept

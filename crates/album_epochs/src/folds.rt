@@ -6,22 +6,24 @@ ghost use Rattle.std.specs.List.Sorted.{IsStrictlySortedBy};
 ghost use Rattle.std.specs.Map.{keys_of};
 ghost use Rattle.std.specs.Option.{option_or};
 ghost use Rattle.album_stamps.specs.declared.limits.TheConstants.{MAX_PARTS};
+ghost use Rattle.album_items.specs.FirstStamps.{first_stamp};
 ghost use Rattle.album_items.specs.ItemIds.{place_of};
 ghost use Rattle.album_items.specs.Values.{is_there};
 ghost use Rattle.album_partition.specs.Marks.{value_in, prepares, prepare_in};
 ghost use Rattle.album_partition.specs.declared.marks.Mark.{Mark as Made};
 ghost use Rattle.album_passes.specs.Cuts.{Cut, marks_at};
-ghost use Rattle.album_epochs.specs.Carried.{IsLeft, AreNextRows};
-ghost use Rattle.album_epochs.specs.Folding.{histories_lent, prepares_of, first_kept, raised, raised_by, newest, newest_of, is_throughout, kept_in, stamp_kept, ArePrepared, AreAllPrepared, AreFolded};
+ghost use Rattle.album_epochs.specs.Carried.{IsLeft, AreNextRows, AreNextStamps};
+ghost use Rattle.album_epochs.specs.Folding.{histories_lent, prepares_of, first_kept, raised, raised_by, newest, newest_of, is_throughout, kept_in, stamp_kept, ArePrepared, AreAllPrepared, AreFolded, AreFoldedStamps, stamp_left};
 
-use album_items::{ItemId, ItemValues, Value, place};
+use album_items::{FirstStamps, ItemId, ItemValues, Value, place};
 use album_partition::Mark;
 use album_stamps::{Refusal, Stamp};
 use std::alloc::{AllocError, Global};
 use std::collections::{BTreeMap, BTreeSet};
 
-/// The rows with which the next epoch opens, after these histories of all partitions, on these first values: rising,
-/// and one for each item that isn't missing. Only marks that prepare count, so that others may be left out.
+/// The rows with which the next epoch opens, after these histories of all partitions, on these first values with these
+/// stamps: rising, and one for each item that isn't missing; and the stamps of them. Only marks that prepare count, so
+/// that others may be left out.
 ///
 /// It takes time for each mark and each item once, but for look-ups.
 ///
@@ -31,18 +33,24 @@ use std::collections::{BTreeMap, BTreeSet};
 pub fn fold(
     alloc: Global,
     first: &[(ItemId, Value)],
+    stamps: &FirstStamps,
     histories: &[&[Mark]],
-) -> Result<ItemValues, Refusal>
+) -> Result<(ItemValues, FirstStamps), Refusal>
     requires some { 1 ≤ length histories.now }
     requires few { length histories.now ≤ MAX_PARTS }
-    ensures folded { IfOk result (AreFolded first.now (histories_lent histories.now)) }
-    ensures rows { IfOk result (λ rows. (cut : Cut) → IsLeft cut → cut.opening ≡ first.now
-        → prepares_of cut.prefixes ≡ prepares_of (histories_lent histories.now) → AreNextRows cut rows) }
+    ensures folded { IfOk result (λ fold. AreFolded first.now (histories_lent histories.now) fold.0) }
+    ensures stamped { IfOk result (λ fold. AreFoldedStamps stamps.now first.now (histories_lent histories.now) fold.1) }
+    ensures rows { IfOk result (λ fold. (cut : Cut) → IsLeft cut → cut.opening ≡ first.now
+        → prepares_of cut.prefixes ≡ prepares_of (histories_lent histories.now) → AreNextRows cut fold.0) }
+    ensures stamps { IfOk result (λ fold. (cut : Cut) → IsLeft cut → cut.opening ≡ first.now
+        → prepares_of cut.prefixes ≡ prepares_of (histories_lent histories.now)
+        → AreNextStamps cut stamps.now fold.1) }
     ensures memory { IsOkUnless result Refusal.OutOfMemory }
 {
     let found = found_in(alloc, first, histories)?;
+    let next = stamps_of(alloc, &found, stamps)?;
     let rows = rows_of(alloc, found)?;
-    Ok(ItemValues::of(rows))
+    Ok((ItemValues::of(rows), next))
 }
 
 /// Of each item the greatest stamp that is carried, with the value there.
@@ -267,6 +275,32 @@ fn copy_of(value: &Value) -> Result<Value, AllocError>
     ensures { IfOk result (λ copy. copy ≡ value.now) }
 {
     value.clone()
+}
+
+/// The stamps to show of the items that are there.
+fn stamps_of(
+    alloc: Global,
+    found: &BTreeMap<ItemId, (Stamp, Value)>,
+    stamps: &FirstStamps,
+) -> Result<FirstStamps, AllocError>
+    ensures { IfOk result (λ next. (item : ℕ) → first_stamp next item
+        ≡ stamp_left stamps.now item (kept_in found.now item)) }
+{
+    let mut next = FirstStamps::new(alloc);
+    for item in found.keys() {
+        next.note(*item, stamp_left(found, stamps, *item))?;
+    }
+    Ok(next)
+}
+
+/// The stamp to show of what was found of an item.
+fn stamp_left(found: &BTreeMap<ItemId, (Stamp, Value)>, stamps: &FirstStamps, item: ItemId) -> Stamp
+    ensures { result ≡ stamp_left stamps.now item (kept_in found.now item) }
+{
+    match found.get(&item) {
+        Some(kept) if kept.1.is_there() => stamps.shown(item, kept.0),
+        Some(_) | None => Stamp::zero(),
+    }
 }
 
 /// The items that are there, rising, with their values.

@@ -2,6 +2,8 @@
 ghost use Rattle.std.specs.Prelude.{◌≡◌, ◌≢◌, ◌≤◌, ◌↔◌, ℕ, List, true, false, Some, IsSome, All, Contains};
 ghost use Rattle.std.specs.List.{list_any, list_all};
 ghost use Rattle.album_items.specs.ItemIds.{place_of};
+ghost use Rattle.album_items.specs.FirstStamps.{Stamps, first_stamp};
+ghost use Rattle.album_items.specs.Values.{is_there};
 ghost use Rattle.album_items.specs.declared.values.Value.{Value};
 ghost use Rattle.album_items.specs.Openings.{Row, has_own_value, has_single_rows};
 ghost use Rattle.album_terminate.specs.declared.deciding.StampState.TheVariants as StampState;
@@ -14,8 +16,8 @@ ghost use Rattle.album_reader.specs.Atomic.{IsReadAtomic};
 ghost use Rattle.album_passes.specs.Cuts.{Cut, Announced, IsBaseOf, announced_for, prefix_at, prefix_for, items_announced, IsPreparedThroughout, IsPromisedSomewhere, IsSound, Extends};
 ghost use Rattle.album_passes.specs.Changes.{marked_cut};
 ghost use Rattle.album_passes.specs.Reads.{IsCommitted, written_value, writes_in_cut};
-ghost use Rattle.album_epochs.specs.Carried.{IsLeft, is_carried, carried_stamp, carried_value, writes_carried, IsCarriedOn, IsCarriedRow, AreNextRows};
-ghost use Rattle.album_epochs.specs.Folding.{prepares_of, AreFolded};
+ghost use Rattle.album_epochs.specs.Carried.{IsLeft, is_carried, carried_stamp, carried_value, writes_carried, IsCarriedOn, IsCarriedRow, AreNextRows, AreNextStamps};
+ghost use Rattle.album_epochs.specs.Folding.{prepares_of, AreFolded, AreFoldedStamps};
 
 /// A law: which stamps are carried. Exactly those are that each partition of their items has prepared. What is
 /// committed anywhere is carried. What is discarded anywhere, or promised against, is not. Of a carried stamp nothing
@@ -99,11 +101,30 @@ pub fn no_carried_update_is_lost()
 {}
 
 /// A law: what first values and histories are folded into is what is carried, in each part of a sound cut that opened
-/// on these values and has what these histories prepare.
+/// on these values and has what these histories prepare. So are its stamps.
 pub fn what_is_folded_is_carried()
-    ensures { (cut : Cut) (first : List Row) (histories : List (List Mark)) (rows : List Row) → IsLeft cut
+    ensures rows { (cut : Cut) (first : List Row) (histories : List (List Mark)) (rows : List Row) → IsLeft cut
         → cut.opening ≡ first → prepares_of cut.prefixes ≡ prepares_of histories → AreFolded first histories rows
         → AreNextRows cut rows }
+    ensures stamps { (cut : Cut) (first : List Row) (histories : List (List Mark)) (stamps next : Stamps) → IsLeft cut
+        → cut.opening ≡ first → prepares_of cut.prefixes ≡ prepares_of histories
+        → AreFoldedStamps stamps first histories next → AreNextStamps cut stamps next }
+{}
+
+/// A law: a stamp stays with its value. Where the epoch has left an item alone, the next one opens with the value and
+/// the stamp that this one opened with. Where it has written the item, the next one opens with the value that was
+/// written at the stamp which it shows. What is missing has no stamp.
+pub fn stamps_stay()
+    ensures alone { (cut : Cut) (stamps next : Stamps) (item : ℕ) → AreNextStamps cut stamps next
+        → carried_stamp cut item ≡ 0 → is_there (carried_value cut item) ≡ true
+        → (first_stamp next item ≡ first_stamp stamps item)
+        × (carried_value cut item ≡ first_value cut.opening item) }
+    ensures written { (cut : Cut) (stamps next : Stamps) (item : ℕ) → AreNextStamps cut stamps next
+        → carried_stamp cut item ≢ 0 → is_there (carried_value cut item) ≡ true
+        → (first_stamp next item ≢ 0)
+        × (written_value cut item (first_stamp next item) ≡ Some (carried_value cut item)) }
+    ensures gone { (cut : Cut) (stamps next : Stamps) (item : ℕ) → AreNextStamps cut stamps next
+        → is_there (carried_value cut item) ≡ false → first_stamp next item ≡ 0 }
 {}
 
 /// A law: an epoch opens on a base. Its rows are of items that are there, each with a value of its item's kind, and no

@@ -16,6 +16,6 @@ pub use folds::fold;
 pub use greatest::greatest_stamp;
 pub use laws::{
     an_epoch_opens_on_a_base, an_epoch_opens_read_atomic, no_carried_update_is_lost,
-    no_view_goes_back, sweeps_decide_so, what_is_carried, what_is_carried_stays,
+    no_view_goes_back, stamps_stay, sweeps_decide_so, what_is_carried, what_is_carried_stays,
     what_is_folded_is_carried,
 };

@@ -1,12 +1,12 @@
 -- The outcomes of the lines of a script: first those of its opening, then the events after it.
-use Rattle.std.specs.Prelude.{◌++◌, ◌∷◌, [], ℕ, List, Bool, true, false, None, if◌then◌else◌, Result, Ok, Err, refl}
+use Rattle.std.specs.Prelude.{ℕ, List, Bool, true, false, None, if◌then◌else◌, Result, Ok, Err, refl}
 use Rattle.std.proofs.Common.{inr}
 use Rattle.album_stamps.specs.declared.refusals.Refusal.{Refusal}
 use Rattle.album_stamps.specs.declared.refusals.Refusal.TheVariants.{OutOfMemory, BadRequest, BadOpening}
-use Rattle.album_items.specs.Openings.{Row, is_opening}
-use Rattle.album_items.specs.declared.openings.Opening.{Opening}
+use Rattle.album_items.specs.Openings.{is_opening}
 use Rattle.album_lines.specs.Lines.{Line}
 use Rattle.album_lines.specs.Output.{line_text}
+use Rattle.album_wire.specs.FirstValues.{ValuesSaid, no_values, with_value, opening_of}
 use Rattle.album_wire.specs.OpeningLine.{opening_line_of}
 use Rattle.album_wire.specs.declared.opening_line.OpeningLine.{OpeningLine}
 use Rattle.album_wire.specs.declared.opening_line.OpeningLine.TheVariants as line
@@ -25,17 +25,17 @@ use Rattle.album_explain_store.specs.Explanations.{Step, ExplainsBy}
 -- the script between two lines: no line was read; it is being opened, with these items so far; or all are there
 pub data Stage : Type 0 where
   Unopened : Stage
-  BeingOpened : Header → List Row → Stage
+  BeingOpened : Header → ValuesSaid → Stage
   Begun : Stage
 
 abbrev pub stage_of : OpeningLines → Stage
 stage_of kept.Unopened = Unopened
-stage_of (kept.BeingOpened so_far) = BeingOpened so_far.header so_far.rows.items
+stage_of (kept.BeingOpened so_far) = BeingOpened so_far.header so_far.values
 stage_of kept.Begun = Begun
 
 abbrev pub has_begun : Stage → Bool
 has_begun Unopened = false
-has_begun (BeingOpened header rows) = false
+has_begun (BeingOpened header values) = false
 has_begun Begun = true
 
 abbrev pub taken_opening : Kind → Taken
@@ -56,7 +56,7 @@ any_header =
 -- the header that the first line says
 abbrev pub header_said : Result OpeningLine Refusal → Result Header Refusal
 header_said (Ok (line.Open header)) = Ok header
-header_said (Ok (line.Item item value)) = Err BadRequest
+header_said (Ok (line.Item item stamp value)) = Err BadRequest
 header_said (Ok line.Begin) = Err BadRequest
 header_said (Err refusal) = Err refusal
 
@@ -67,42 +67,30 @@ header_reading (Err refusal) = Err refusal
 
 -- the explainer's stage after the first line
 abbrev pub opened_by : Result Header Refusal → Stage
-opened_by (Ok header) = BeingOpened header []
-opened_by (Err refusal) = BeingOpened any_header []
+opened_by (Ok header) = BeingOpened header no_values
+opened_by (Err refusal) = BeingOpened any_header no_values
 
 -- the header comes first
 abbrev pub first_step : Result OpeningLine Refusal → Step Stage
 first_step said = record { reading = header_reading (header_said said); next = opened_by (header_said said) }
 
--- what the lines have said
-abbrev pub opening_of : Header → List Row → Opening
-opening_of header rows =
-    record {
-      parts = header.parts;
-      limit = header.limit;
-      policy = header.policy;
-      checked = header.checked;
-      first = header.first;
-      items = rows;
-    }
-
 -- the items that were taken are an opening
-abbrev pub begin_reading : Header → List Row → Result Taken Refusal
-begin_reading header rows =
-    if is_opening (opening_of header rows) then Ok (taken_opening kind.Begin) else Err BadOpening
+abbrev pub begin_reading : Header → ValuesSaid → Result Taken Refusal
+begin_reading header values =
+    if is_opening (opening_of header values) then Ok (taken_opening kind.Begin) else Err BadOpening
 
 -- then come the items, and then that these are all; a line that is refused is left out
-abbrev pub later_step : Header → List Row → Result OpeningLine Refusal → Step Stage
-later_step header rows (Ok (line.Open other)) = record { reading = Err BadRequest; next = BeingOpened header rows }
-later_step header rows (Ok (line.Item item value)) =
-    record { reading = Ok (taken_opening kind.Item); next = BeingOpened header (rows ++ (item, value) ∷ []) }
-later_step header rows (Ok line.Begin) = record { reading = begin_reading header rows; next = Begun }
-later_step header rows (Err refusal) = record { reading = Err refusal; next = BeingOpened header rows }
+abbrev pub later_step : Header → ValuesSaid → Result OpeningLine Refusal → Step Stage
+later_step header values (Ok (line.Open other)) = record { reading = Err BadRequest; next = BeingOpened header values }
+later_step header values (Ok (line.Item item stamp value)) =
+    record { reading = Ok (taken_opening kind.Item); next = BeingOpened header (with_value values item stamp value) }
+later_step header values (Ok line.Begin) = record { reading = begin_reading header values; next = Begun }
+later_step header values (Err refusal) = record { reading = Err refusal; next = BeingOpened header values }
 
 -- events follow the opening, whether it was one or not
 abbrev pub opening_step : Stage → Line → Step Stage
 opening_step Unopened line = first_step (read_by opening_line_of line)
-opening_step (BeingOpened header rows) line = later_step header rows (read_by opening_line_of line)
+opening_step (BeingOpened header values) line = later_step header values (read_by opening_line_of line)
 opening_step Begun line = record { reading = event_reading line; next = Begun }
 
 -- the explanation of a line of a script

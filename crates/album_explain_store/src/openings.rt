@@ -2,6 +2,7 @@
 ghost use Rattle.std.specs.Prelude.{◌≡◌, ◌≢◌, ◌++◌, ◌∷◌, [], Ok, Err, IfOk};
 ghost use Rattle.album_stamps.specs.Outcome.{Gives};
 ghost use Rattle.album_lines.specs.Lines.{said};
+ghost use Rattle.album_wire.specs.FirstValues.{no_values};
 ghost use Rattle.album_wire.specs.OpeningLine.{opening_line_of};
 ghost use Rattle.album_explain_store.specs.Readings.{read_by};
 ghost use Rattle.album_explain_store.specs.Explanations.{IsReply, ExplainsBy};
@@ -12,10 +13,11 @@ use crate::explanations::{Kind, Lines, Taken, explain_reading, explain_refused, 
 use crate::places::opened::bad_opening;
 use crate::places::tables::Table;
 use album_explain::Explainer;
-use album_items::{ItemId, ItemValues, Opening, Value};
 use album_lines::LineIn;
 use album_stamps::Refusal;
-use album_wire::{DEFAULT_LIMIT, DEFAULT_POLICY, Header, OpeningLine, read_opening_line};
+use album_wire::{
+    DEFAULT_LIMIT, DEFAULT_POLICY, FirstValues, Header, OpeningLine, read_opening_line,
+};
 use json::Scratch;
 use std::alloc::Global;
 use std::mem;
@@ -37,7 +39,7 @@ pub struct SoFar {
     pub header: Header,
     /// The number of the header's line.
     pub header_line: u64,
-    pub rows: Vec<(ItemId, Value)>,
+    pub values: FirstValues,
     /// The number of each item's line.
     pub lines: Vec<u64>,
 }
@@ -163,8 +165,8 @@ fn explain_later(
     so_far: SoFar,
 ) -> Result<Explained, Refusal>
     ensures { IfOk result (λ t.
-        ExplainsBy (later_step so_far.header so_far.rows.items (read_by opening_line_of (said line.now)))
-        (BeingOpened so_far.header so_far.rows.items) number t.0.1 t.0.0.items (stage_of t.1)) }
+        ExplainsBy (later_step so_far.header so_far.values (read_by opening_line_of (said line.now)))
+        (BeingOpened so_far.header so_far.values) number t.0.1 t.0.0.items (stage_of t.1)) }
 {
     match opening_line(alloc, scratch, line) {
         Ok(said) => explain_said(alloc, scratch, line, number, so_far, said),
@@ -184,22 +186,22 @@ fn explain_said(
     so_far: SoFar,
     said: OpeningLine,
 ) -> Result<Explained, Refusal>
-    ensures { IfOk result (λ t. ExplainsBy (later_step so_far.header so_far.rows.items (Ok said))
-        (BeingOpened so_far.header so_far.rows.items) number t.0.1 t.0.0.items (stage_of t.1)) }
+    ensures { IfOk result (λ t. ExplainsBy (later_step so_far.header so_far.values (Ok said))
+        (BeingOpened so_far.header so_far.values) number t.0.1 t.0.0.items (stage_of t.1)) }
 {
     match said {
         OpeningLine::Open(_) => {
             let explanation = explain_bad(alloc, scratch, line, number, Refusal::BadRequest)?;
             Ok((explanation, OpeningLines::BeingOpened(so_far)))
         }
-        OpeningLine::Item(item, value) => {
+        OpeningLine::Item(item, stamp, value) => {
             let SoFar {
                 header,
                 header_line,
-                mut rows,
+                mut values,
                 mut lines,
             } = so_far;
-            rows.push((item, value))?;
+            values.add(item, stamp, value)?;
             lines.push(number)?;
             let explanation = explain_taken(alloc, number, taken_opening(Kind::Item))?;
             Ok((
@@ -207,7 +209,7 @@ fn explain_said(
                 OpeningLines::BeingOpened(SoFar {
                     header,
                     header_line,
-                    rows,
+                    values,
                     lines,
                 }),
             ))
@@ -233,12 +235,12 @@ fn explain_bad(
 }
 
 fn opened_with(alloc: Global, header: Header, header_line: u64) -> OpeningLines
-    ensures { stage_of result ≡ BeingOpened header [] }
+    ensures { stage_of result ≡ BeingOpened header no_values }
 {
     OpeningLines::BeingOpened(SoFar {
         header,
         header_line,
-        rows: Vec::new(alloc),
+        values: FirstValues::new(alloc),
         lines: Vec::new(alloc),
     })
 }
@@ -246,22 +248,15 @@ fn opened_with(alloc: Global, header: Header, header_line: u64) -> OpeningLines
 /// The explanation of `begin`, where all items are there: whether they make an opening.
 fn explain_begin(alloc: Global, number: u64, so_far: SoFar) -> Result<(Vec<u8>, bool), Refusal>
     ensures { IfOk result (λ explanation.
-        IsReply number (begin_reading so_far.header so_far.rows.items) explanation.1 explanation.0.items) }
+        IsReply number (begin_reading so_far.header so_far.values) explanation.1 explanation.0.items) }
 {
     let SoFar {
         header,
         header_line,
-        rows,
+        values,
         lines,
     } = so_far;
-    let opened = Opening {
-        parts: header.parts,
-        limit: header.limit,
-        policy: header.policy,
-        checked: header.checked,
-        first: header.first,
-        items: ItemValues::of(rows),
-    };
+    let opened = values.into_opening(header);
     match opened.check() {
         Ok(()) => explain_taken(alloc, number, taken_opening(Kind::Begin)),
         Err(refusal) => {

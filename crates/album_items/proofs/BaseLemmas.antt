@@ -4,6 +4,7 @@ use Rattle.std.proofs.Common.{◌≡◌, ◌==◌, ◌&&◌, ◌||◌, ◌<◌, 
 use Rattle.std.specs.List.{list_all, list_any}
 use Rattle.std.proofs.lemmas.Bool.{and_parts, and_from, leb-true, leb-false}
 use Rattle.album_stamps.specs.Distinct.{no_two}
+use Rattle.album_items.specs.FirstStamps.{are_early}
 use Rattle.album_items.specs.Openings.{Row, has_own_value, is_low_row, has_few_children, has_single_children, is_right_row, has_counts, has_few_items, has_single_rows, has_own_lists, has_fit_lists, are_first_rows, is_not_above, are_rising, are_later_rows, greatest_number, is_opening, is_base_opening, same_item}
 use Rattle.album_items.specs.declared.openings.Opening.{Opening}
 
@@ -116,7 +117,9 @@ low_rows (row ∷ rows) h =
 
 pub opening_is_base : (o : Opening) → is_opening o ≡ true → is_base_opening o ≡ true
 opening_is_base o is =
-    let both = and_parts (has_counts o) (if o.first == 0 then are_first_rows o.items else are_later_rows o.first o.items) is in
+    let rows = and_parts (has_counts o && (if o.first == 0 then are_first_rows o.items else are_later_rows o.first o.items))
+    (are_early (greatest_number o.first) o.stamps) is in
+    let both = and_parts (has_counts o) (if o.first == 0 then are_first_rows o.items else are_later_rows o.first o.items) rows.0 in
     and_from (has_counts o) (has_single_rows o.items && list_all has_own_value o.items && list_all (is_low_row (greatest_number o.first)) o.items) both.0
     (go (o.first == 0) refl both.1)
   where

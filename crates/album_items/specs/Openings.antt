@@ -8,6 +8,7 @@ use Rattle.album_lists.specs.declared.lists.Holder.TheVariants.{Plain, Folder}
 use Rattle.album_stamps.specs.declared.limits.TheConstants.{MAX_PARTS, MIN_MARKS, MAX_MARKS, MAX_CHILDREN, MAX_OPENING_ITEMS, MAX_OPENING_NUMBER, MAX_COUNTER, CLIENTS}
 use Rattle.album_items.specs.ItemIds.{list, kind_of, number_of}
 use Rattle.album_stamps.specs.Distinct.{no_two, are_distinct}
+use Rattle.album_items.specs.FirstStamps.{are_early}
 use Rattle.album_items.specs.Values.{is_of, is_there, head_of, children_of}
 use Rattle.album_items.specs.declared.values.Value.{Value}
 use Rattle.album_items.specs.declared.values.Value.TheVariants as value
@@ -169,6 +170,7 @@ abbrev pub is_opening : Opening → Bool
 is_opening opening =
     has_counts opening
     && (if opening.first == 0 then are_first_rows opening.items else are_later_rows opening.first opening.items)
+    && are_early (greatest_number opening.first) opening.stamps
 
 -- What partitions may open on: each opening, and what an epoch leaves. Each value is of its item's kind, no item has
 -- two, and no number is above those that the epochs before gave.

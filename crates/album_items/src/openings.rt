@@ -1,5 +1,5 @@
 //! The state that the service opens with.
-ghost use Rattle.std.specs.Prelude.{◌≡◌, ◌==◌, ◌&&◌, ◌∷◌, ◌≤◌, true, false, MatchResult};
+ghost use Rattle.std.specs.Prelude.{◌≡◌, ◌==◌, ◌&&◌, ◌∷◌, ◌≤◌, true, false, MatchResult, if◌then◌else◌};
 ghost use Rattle.std.specs.List.{list_all, list_any};
 ghost use Rattle.album_stamps.specs.declared.refusals.Refusal.TheVariants.{BadOpening};
 ghost use Rattle.album_stamps.specs.Distinct.{are_distinct};
@@ -9,6 +9,7 @@ ghost use Rattle.album_items.specs.declared.openings.Opening.{Opening as Made};
 ghost use Rattle.album_items.specs.Openings.{has_own_value, is_low, are_low, has_low_numbers, is_low_row, has_single_children, has_few_children, same_item, is_right_row, has_parts, has_limit, has_policy, has_first, greatest_number, has_counts, has_few_items, has_single_rows, has_own_lists, has_fit_lists, are_first_rows, are_rising, are_later_rows, is_opening, is_base_opening};
 
 use crate::collections::{ItemValues, Items};
+use crate::first_stamps::FirstStamps;
 use crate::item_ids::ItemId;
 use crate::pairs;
 use crate::values::Value;
@@ -19,7 +20,7 @@ use album_stamps::{
 
 /// The state that the service opens with: how many partitions there are, how many marks the
 /// history of each may have, the number of the policy that lists are judged by, whether writes are
-/// checked, above which counter stamps are drawn, and the first values of items.
+/// checked, above which counter stamps are drawn, and the first values of items with their stamps.
 #[derive(Debug, Drop)]
 pub struct Opening {
     /// How many partitions there are: 1 to `MAX_PARTS`.
@@ -37,11 +38,14 @@ pub struct Opening {
     /// The items with their first values: at most `MAX_OPENING_ITEMS` in a first epoch. An item that isn't among them
     /// is missing at first.
     pub items: ItemValues,
+    /// The stamps at which these values were written in the epochs before. None is above the numbers that these gave:
+    /// in a first epoch there is none.
+    pub stamps: FirstStamps,
 }
 
 impl Opening {
-    /// Whether the service may open with it: its counts, then each item by itself, then the items together. A later
-    /// epoch's items rise, and each has a value of its kind and numbers that the epochs before gave.
+    /// Whether the service may open with it: its counts, then each item by itself, then the items together, then the
+    /// stamps. A later epoch's items rise, and each has a value of its kind and numbers that the epochs before gave.
     ///
     /// # Errors
     ///
@@ -61,13 +65,25 @@ impl Opening {
     fn is_opening(&self) -> bool
         ensures { result ≡ is_opening self.now }
     {
-        let rows = self.items.as_slice();
         self.has_counts()
-            && if self.first == 0 {
-                are_first_rows(rows)
-            } else {
-                are_later_rows(self.first, rows)
-            }
+            && self.has_rows()
+            && self
+                .stamps
+                .are_early(self.first * CLIENTS + MAX_OPENING_NUMBER)
+    }
+
+    /// Whether the epoch may open with its items.
+    fn has_rows(&self) -> bool
+        requires { self.now.first ≤ MAX_COUNTER }
+        ensures { result ≡ (if self.now.first == 0 then are_first_rows self.now.items
+            else are_later_rows self.now.first self.now.items) }
+    {
+        let rows = self.items.as_slice();
+        if self.first == 0 {
+            are_first_rows(rows)
+        } else {
+            are_later_rows(self.first, rows)
+        }
     }
 
     /// Whether the partitions and their marks are neither too few nor too many, there is a policy of the number, and

@@ -19,6 +19,10 @@ abbrev pub entries_named : (ℕ → Value) → ℕ → List Ace
 entries_named seen item =
     option_map_or (λ (head : Head). entries_of (seen (list head.list))) (head_of (seen item)) []
 
+-- the item of that list; what has no head is its own
+abbrev pub list_named : (ℕ → Value) → ℕ → ℕ
+list_named seen item = option_map_or (λ (head : Head). list head.list) (head_of (seen item)) item
+
 -- the stamp of that list
 abbrev pub stamp_named : List ReadVersion → ℕ → ℕ
 stamp_named rows item = option_map_or (λ (head : Head). stamp_seen rows (list head.list)) (head_of (seen rows item)) 0

@@ -25,7 +25,7 @@ impl<'a> ViewLookup<'a> {
     ghost use Rattle.album_items.specs.Values.{entries_of};
     ghost use Rattle.album_reader.specs.Snapshots.{version_read};
     ghost use Rattle.album_views.specs.Seen.{seen};
-    ghost use Rattle.album_listing.specs.ViewLookups.{stamp_seen, entries_named, stamp_named};
+    ghost use Rattle.album_listing.specs.ViewLookups.{stamp_seen, entries_named, list_named, stamp_named};
 
     /// What the view shows.
     #[tactic(auto, unfolding(album_lists::specs::Entries::access_list_of))]
@@ -86,6 +86,16 @@ impl<'a> ViewLookup<'a> {
         match self.value(item).head() {
             Some(head) => self.list(head.list),
             None => &self.no_entries,
+        }
+    }
+
+    /// The item of that list. What has no head is its own.
+    pub fn list_named(&self, item: ItemId) -> ItemId
+        ensures { result ≡ list_named (seen self.now.view.now.rows) item }
+    {
+        match self.value(item).head() {
+            Some(head) => ItemId::new(Kind::List, head.list),
+            None => item,
         }
     }
 

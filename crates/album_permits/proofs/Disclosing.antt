@@ -25,7 +25,7 @@ use Rattle.album_listing.specs.Disclosure.{bare, AreRuledAlike, AreAlikeFor}
 use Rattle.album_listing.specs.GroupsFound.{basis_on}
 use Rattle.album_listing.specs.Masks.{READ_DATA, LIST_DIRECTORY, READ_ACL, DELETE, DELETE_CHILD, ADD_FILE}
 use Rattle.album_listing.specs.Reasons.{on, case_on, with_verdict, is_grant}
-use Rattle.album_listing.specs.ViewLookups.{stamp_seen, stamp_named, entries_named}
+use Rattle.album_listing.specs.ViewLookups.{stamp_seen, stamp_named, list_named, entries_named}
 use Rattle.album_listing.specs.declared.reasons.Alternative.{Alternative}
 use Rattle.album_listing.specs.declared.reasons.Reason.{Reason}
 use Rattle.album_listing.proofs.Baring.{head-bare, groupless-bare, home-bare, entries-bare, bared, seen-bared, subjects-back, agree-bared, basis-bared, bare_basis, made-bared, seen-same, rows-alike}
@@ -41,7 +41,7 @@ use Rattle.album_permits.specs.declared.serving.Served.{Served}
 use Rattle.album_permits.specs.declared.serving.Served.TheVariants as served
 use Rattle.album_permits.proofs.Agreeing.{ruling-alike, notes-alike}
 use Rattle.album_permits.proofs.Granting.{needs-met, only-met}
-use Rattle.album_permits.proofs.Spending.{entries-alike}
+use Rattle.album_permits.proofs.Spending.{entries-alike, list-named-alike}
 
 -- ---- a basis that is bared
 
@@ -181,6 +181,11 @@ entries-bared rows item =
     ap (λ (lookup : ℕ → Value). entries_named lookup item) (λ k i. seen-bared rows i k)
     ∙ λ k. option_map_or (λ (head : Head). entries-bare (seen rows (list head.list)) k) (head-bare (seen rows item) k) []
 
+list-bared : (rows : List ReadVersion) (item : ℕ) → list_named (seen (bared rows)) item ≡ list_named (seen rows) item
+list-bared rows item =
+    ap (λ (lookup : ℕ → Value). list_named lookup item) (λ k i. seen-bared rows i k)
+    ∙ ap (λ (o : Option Head). option_map_or (λ (head : Head). list head.list) o item) (head-bare (seen rows item))
+
 pub served-alike :
     (policy : Policy) (me : Principal) (asked : Ask) (one other : List ReadVersion) (given more : Served)
     → AreAlikeFor policy me asked one other → IsPermit (permit_on policy me asked one)
@@ -207,8 +212,15 @@ served-alike policy me (ask.GetList object) one other given more alike kept l m 
     (needs-met (permit_on policy me (ask.GetList object) one) kept)).1 in
     let named = Subject object (first-of object []) in
     l
-    ∙ ap (λ (s : ℕ). served.Entries object s (entries_named (seen one) object)) (alike.listed object named granted)
-    ∙ ap (served.Entries object (stamp_named other object))
+    ∙ ap (λ (i : ℕ). served.Entries object i (stamp_named one object) (entries_named (seen one) object))
+    (sym (list-bared one object)
+    ∙ list-named-alike (looker_of policy me) (ask.GetList object) (bared one) (bared other)
+    (agree (looker_of policy me) (ask.GetList object) one other alike.ruled)
+    object (first-of object [])
+    ∙ list-bared other object)
+    ∙ ap (λ (s : ℕ). served.Entries object (list_named (seen other) object) s (entries_named (seen one) object))
+    (alike.listed object named granted)
+    ∙ ap (served.Entries object (list_named (seen other) object) (stamp_named other object))
     (sym (entries-bared one object)
     ∙ entries-alike (looker_of policy me) (ask.GetList object) (bared one) (bared other)
     (agree (looker_of policy me) (ask.GetList object) one other alike.ruled)

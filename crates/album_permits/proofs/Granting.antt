@@ -26,7 +26,7 @@ use Rattle.album_listing.specs.Basis.{Basis}
 use Rattle.album_listing.specs.GroupsFound.{basis_on}
 use Rattle.album_listing.specs.Masks.{READ_DATA, WRITE_DATA, LIST_DIRECTORY, ADD_FILE, ADD_SUBDIRECTORY, DELETE_CHILD, WRITE_ATTRIBUTES, DELETE, READ_ACL, WRITE_ACL, WRITE_OWNER}
 use Rattle.album_listing.specs.Reasons.{on, is_granted_on}
-use Rattle.album_listing.specs.ViewLookups.{stamp_seen, stamp_named, entries_named}
+use Rattle.album_listing.specs.ViewLookups.{stamp_seen, stamp_named, list_named, entries_named}
 use Rattle.album_listing.specs.Fields.{title_field, content_field}
 use Rattle.album_listing.specs.declared.reasons.Alternative.{Alternative}
 use Rattle.album_listing.specs.declared.rows.Row.{Row}
@@ -488,13 +488,13 @@ module _ (permit : PermitState) where
   read-rows object s album stamp rows (value.Group x) e = cc
 
   read-entries :
-      (other s object stamp : ℕ) (entries : List Ace) (v : Value)
-      → served.Entries object stamp entries ≡ read_of other s v → ⊥
-  read-entries other s object stamp entries value.Missing e = cc
-  read-entries other s object stamp entries (value.Picture x) e = cc
-  read-entries other s object stamp entries (value.Album x) e = cc
-  read-entries other s object stamp entries (value.List x) e = cc
-  read-entries other s object stamp entries (value.Group x) e = cc
+      (other s object of stamp : ℕ) (entries : List Ace) (v : Value)
+      → served.Entries object of stamp entries ≡ read_of other s v → ⊥
+  read-entries other s object of stamp entries value.Missing e = cc
+  read-entries other s object of stamp entries (value.Picture x) e = cc
+  read-entries other s object of stamp entries (value.Album x) e = cc
+  read-entries other s object of stamp entries (value.List x) e = cc
+  read-entries other s object of stamp entries (value.Group x) e = cc
 
   rows-for :
       (album stamp : ℕ) (rows : List Row) (asked : Ask) → has_needs_met (basis_for permit) asked ≡ true
@@ -524,31 +524,32 @@ module _ (permit : PermitState) where
       IsTrue (is_granted_to permit object READ_ACL) × (entries_named lookup object ≡ entries)
 
   entries-for :
-      (object stamp : ℕ) (entries : List Ace) (asked : Ask) → has_needs_met (basis_for permit) asked ≡ true
-      → IsServedFor permit (served.Entries object stamp entries) asked → IsReadList object entries
-  entries-for object stamp entries (ask.Read other) met l =
-      absurd (read-entries other (stamp_seen permit.view.rows other) object stamp entries (lookup other) l)
-  entries-for object stamp entries (ask.List album) met l =
-      let e = l.given_is in absurd (let f : served.Entries object stamp entries ≡ served.Listed album (stamp_seen permit.view.rows album) l.rows = e in cc)
-  entries-for object stamp entries (ask.GetList other) met l =
-      let e : served.Entries object stamp entries
-      ≡ served.Entries other (stamp_named permit.view.rows other) (entries_named lookup other) = l in
+      (object of stamp : ℕ) (entries : List Ace) (asked : Ask) → has_needs_met (basis_for permit) asked ≡ true
+      → IsServedFor permit (served.Entries object of stamp entries) asked → IsReadList object entries
+  entries-for object of stamp entries (ask.Read other) met l =
+      absurd (read-entries other (stamp_seen permit.view.rows other) object of stamp entries (lookup other) l)
+  entries-for object of stamp entries (ask.List album) met l =
+      let e = l.given_is in absurd (let f : served.Entries object of stamp entries ≡ served.Listed album (stamp_seen permit.view.rows album) l.rows = e in cc)
+  entries-for object of stamp entries (ask.GetList other) met l =
+      let e : served.Entries object of stamp entries
+      ≡ served.Entries other (list_named lookup other) (stamp_named permit.view.rows other)
+      (entries_named lookup other) = l in
       let o : object ≡ other = cc in
       let k : entries ≡ entries_named lookup other = cc in (
         subst (λ (i : ℕ). is_granted_to permit i READ_ACL ≡ true) (sym o)
             (only-met (basis_for permit) other READ_ACL met).1,
         ap (entries_named lookup) o ∙ sym k,
       )
-  entries-for object stamp entries (ask.AddPicture into t k) met l = absurd l
-  entries-for object stamp entries (ask.AddAlbum into t) met l = absurd l
-  entries-for object stamp entries (ask.Retitle other t) met l = absurd l
-  entries-for object stamp entries (ask.Replace other k) met l = absurd l
-  entries-for object stamp entries (ask.Delete other) met l = absurd l
-  entries-for object stamp entries (ask.Move other to) met l = absurd l
-  entries-for object stamp entries (ask.SetLists lists) met l = absurd l
-  entries-for object stamp entries (ask.SetOwner other owner number) met l = absurd l
-  entries-for object stamp entries (ask.SetMembers other members) met l = absurd l
-  entries-for object stamp entries (ask.Share lists members) met l = absurd l
+  entries-for object of stamp entries (ask.AddPicture into t k) met l = absurd l
+  entries-for object of stamp entries (ask.AddAlbum into t) met l = absurd l
+  entries-for object of stamp entries (ask.Retitle other t) met l = absurd l
+  entries-for object of stamp entries (ask.Replace other k) met l = absurd l
+  entries-for object of stamp entries (ask.Delete other) met l = absurd l
+  entries-for object of stamp entries (ask.Move other to) met l = absurd l
+  entries-for object of stamp entries (ask.SetLists lists) met l = absurd l
+  entries-for object of stamp entries (ask.SetOwner other owner number) met l = absurd l
+  entries-for object of stamp entries (ask.SetMembers other members) met l = absurd l
+  entries-for object of stamp entries (ask.Share lists members) met l = absurd l
 
 pub picture-granted :
     (permit : PermitState) (object stamp : ℕ) (title content : List ℕ) → IsPermit permit
@@ -569,7 +570,7 @@ rows-granted permit album stamp rows kept l =
     rows-for permit album stamp rows permit.view.ask (needs-met permit kept) l
 
 pub entries-granted :
-    (permit : PermitState) (object stamp : ℕ) (entries : List Ace) → IsPermit permit
-    → IsServed permit (served.Entries object stamp entries) → IsReadList permit object entries
-entries-granted permit object stamp entries kept l =
-    entries-for permit object stamp entries permit.view.ask (needs-met permit kept) l
+    (permit : PermitState) (object of stamp : ℕ) (entries : List Ace) → IsPermit permit
+    → IsServed permit (served.Entries object of stamp entries) → IsReadList permit object entries
+entries-granted permit object of stamp entries kept l =
+    entries-for permit object of stamp entries permit.view.ask (needs-met permit kept) l

@@ -25,7 +25,7 @@ use Rattle.album_views.specs.declared.asks.Ask.TheVariants as ask
 use Rattle.album_views.specs.declared.asks.NewList.{NewList}
 use Rattle.album_views.specs.declared.asks.NewMembership.{NewMembership}
 use Rattle.album_listing.specs.Agreement.{AgreeOn}
-use Rattle.album_listing.specs.ViewLookups.{stamp_seen, entries_named, stamp_named}
+use Rattle.album_listing.specs.ViewLookups.{stamp_seen, entries_named, list_named, stamp_named}
 use Rattle.album_listing.proofs.Judging.{first-of}
 use Rattle.album_listing.proofs.Looking.{seen-alike, listings-alike}
 use Rattle.album_permits.specs.Changes.{with_title, with_content, with_home, with_owner, with_members, without_child, with_child}
@@ -94,6 +94,12 @@ module _ (looker : Option Principal) (asked : Ask) (one other : List ReadVersion
   stamp-alike : (item : ℕ) → IsNamed (seen one) looker asked item → stamp_seen one item ≡ stamp_seen other item
   stamp-alike item named =
       ap (λ (o : Option (ℕ × Value)). option_map_or (λ version. version.0) o 0) (agree.same item named)
+
+  pub list-named-alike :
+      (item : ℕ) → Contains (subjects_of (seen one) asked) item
+      → list_named (seen one) item ≡ list_named (seen other) item
+  list-named-alike item subject =
+      ap (λ (v : Value). option_map_or (λ (head : Head). list head.list) (head_of v) item) (same item subject)
 
   stamp-named-alike :
       (item : ℕ) → Contains (subjects_of (seen one) asked) item → stamp_named one item ≡ stamp_named other item
@@ -250,9 +256,11 @@ served-alike policy me (ask.List into) one other given more agree l m =
     ∙ sym m.given_is
 served-alike policy me (ask.GetList object) one other given more agree l m =
     l
-    ∙ ap (λ (s : ℕ). served.Entries object s (entries_named (seen one) object))
+    ∙ ap (λ (i : ℕ). served.Entries object i (stamp_named one object) (entries_named (seen one) object))
+    (list-named-alike (looker_of policy me) (ask.GetList object) one other agree object (first-of object []))
+    ∙ ap (λ (s : ℕ). served.Entries object (list_named (seen other) object) s (entries_named (seen one) object))
     (stamp-named-alike (looker_of policy me) (ask.GetList object) one other agree object (first-of object []))
-    ∙ ap (served.Entries object (stamp_named other object))
+    ∙ ap (served.Entries object (list_named (seen other) object) (stamp_named other object))
     (entries-alike (looker_of policy me) (ask.GetList object) one other agree object (first-of object []))
     ∙ sym m
 served-alike policy me (ask.AddPicture into title content) one other given more agree l m = absurd l

@@ -7,7 +7,7 @@ use Rattle.album_views.specs.Seen.{seen}
 use Rattle.album_views.specs.declared.asks.Ask.{Ask}
 use Rattle.album_views.specs.declared.asks.Ask.TheVariants as ask
 use Rattle.album_listing.specs.Listing.{IsListing}
-use Rattle.album_listing.specs.ViewLookups.{stamp_seen, stamp_named, entries_named}
+use Rattle.album_listing.specs.ViewLookups.{stamp_seen, stamp_named, list_named, entries_named}
 use Rattle.album_listing.specs.declared.rows.Row.{Row}
 use Rattle.album_permits.specs.Permits.{PermitState}
 use Rattle.album_permits.specs.declared.serving.Served.{Served}
@@ -34,7 +34,8 @@ IsServedFor permit given (ask.Read object) =
 IsServedFor permit given (ask.List album) = AreServedRows permit album given
 IsServedFor permit given (ask.GetList object) =
     given
-    ≡ served.Entries object (stamp_named permit.view.rows object) (entries_named (seen permit.view.rows) object)
+    ≡ served.Entries object (list_named (seen permit.view.rows) object) (stamp_named permit.view.rows object)
+    (entries_named (seen permit.view.rows) object)
 IsServedFor permit given (ask.AddPicture album title content) = ⊥
 IsServedFor permit given (ask.AddAlbum album title) = ⊥
 IsServedFor permit given (ask.Retitle object title) = ⊥

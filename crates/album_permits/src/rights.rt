@@ -35,8 +35,8 @@ pub fn what_is_served_is_granted()
     ensures listed { (permit : PermitState) (album stamp : ℕ) (rows : List Row)
         → IsPermit permit → IsServed permit (served.Listed album stamp rows)
         → IsTrue (is_granted_to permit album LIST_DIRECTORY) }
-    ensures entries { (permit : PermitState) (object stamp : ℕ) (entries : List Ace)
-        → IsPermit permit → IsServed permit (served.Entries object stamp entries)
+    ensures entries { (permit : PermitState) (object of stamp : ℕ) (entries : List Ace)
+        → IsPermit permit → IsServed permit (served.Entries object of stamp entries)
         → IsTrue (is_granted_to permit object READ_ACL)
         × (entries_named (seen permit.view.rows) object ≡ entries) }
 {}

@@ -29,9 +29,11 @@ pub enum Served {
         stamp: Stamp,
         members: Members,
     },
-    /// With the stamp of the object's list.
+    /// The object's list, with its stamp.
     Entries {
         object: ItemId,
+        /// The item of that list.
+        of: ItemId,
         stamp: Stamp,
         list: AccessList,
     },
@@ -115,11 +117,13 @@ fn list_served(alloc: Global, permit: &Permit, object: ItemId) -> Result<Served,
     ensures memory { IsOkUnless result Refusal.OutOfMemory }
 {
     let lookup = ViewLookup::of(alloc, permit.view());
+    let of = lookup.list_named(object);
     let stamp = lookup.stamp_of_list(object);
     drop(lookup);
     let list = list_of(alloc, permit, object)?;
     Ok(Served::Entries {
         object,
+        of,
         stamp,
         list,
     })

@@ -375,6 +375,7 @@ where
         &mut to,
         &mut owned.session,
         &shared.connections.admins,
+        &shared.opening.stamps,
         &hearing,
         who,
         shared.limits.turns,

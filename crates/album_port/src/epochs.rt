@@ -5,7 +5,7 @@ use crate::audit_file::AuditFile;
 use crate::connections::Connections;
 use crate::input::Input;
 use crate::notices::{Notices, Printer};
-use crate::one_epoch::serve_opened;
+use crate::one_epoch::{EpochTerms, serve_opened};
 use crate::port::{Host, Served, Serving, open_by, print, totals_out};
 use crate::turn::LogBound;
 use crate::waker::{Door, Waker};
@@ -148,7 +148,7 @@ impl Port {
         &mut self,
         rt: T,
         alloc: Global,
-        opening: &Opening,
+        opening: &Arc<Opening, Global>,
         log: L,
         bound: LogBound,
         audit: Option<AuditFile>,
@@ -161,8 +161,12 @@ impl Port {
     {
         match open_by(&rt, alloc, opening, writer, u16::MAX)? {
             Ok(opened) => {
-                let journal = self.journal(rt, alloc, audit)?;
-                self.serve(rt, alloc, opened, Some(log), Some(bound), journal, writer)
+                let terms = EpochTerms {
+                    journal: self.journal(rt, alloc, audit)?,
+                    bound: Some(bound),
+                    opening: Arc::try_clone(opening).map_err(|_| Fault::Memory)?,
+                };
+                self.serve(rt, alloc, opened, Some(log), terms, writer)
             }
             Err(_) => Ok(EpochEnd::Refused),
         }
@@ -193,8 +197,7 @@ impl Port {
         alloc: Global,
         opened: Opened,
         log: Option<L>,
-        bound: Option<LogBound>,
-        journal: AuditJournal<T>,
+        terms: EpochTerms<T>,
         writer: &mut W,
     ) -> Result<EpochEnd, Fault>
     where
@@ -202,9 +205,7 @@ impl Port {
         L: MarkLog + Drop + Send + 'static,
         W: Write,
     {
-        let (accepted, totals) = serve_opened(
-            rt, alloc, opened, log, self, journal, bound, writer,
-        )?;
+        let (accepted, totals) = serve_opened(rt, alloc, opened, log, self, terms, writer)?;
         self.totals = sum(self.totals, totals);
         match accepted {
             Accepted::All => Ok(EpochEnd::Over),

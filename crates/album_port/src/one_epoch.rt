@@ -14,6 +14,7 @@ use crate::port::{Host, print};
 use crate::turn::{LogBound, Turn};
 use crate::watch::watch;
 use album_audit::Totals;
+use album_items::Opening;
 use album_judge::Fault;
 use album_stamps::Refusal;
 use album_threads::{Gauge, MarkLog, Opened, OwnedSession, Service, ServiceNames};
@@ -26,6 +27,17 @@ use std::sync::{Arc, Mutex, Wait};
 use std::thread;
 use std::thread::{JoinHandle, Threads};
 
+/// What an epoch has besides the state that was opened.
+#[derive(Drop)]
+pub(crate) struct EpochTerms<T: Wait + Copy> {
+    /// Writes the notes to the audit file, if there is one.
+    pub journal: AuditJournal<T>,
+    /// The epoch turns where its log has a bound.
+    pub bound: Option<LogBound>,
+    /// What it opened on: the stamps that are shown of first values.
+    pub opening: Arc<Opening, Global>,
+}
+
 /// Serves what was opened, under names of its own. Gives how its connections ended, and the totals of its book.
 pub(crate) fn serve_opened<T, L, W>(
     rt: T,
@@ -33,8 +45,7 @@ pub(crate) fn serve_opened<T, L, W>(
     opened: Opened,
     log: Option<L>,
     port: &mut Port,
-    journal: AuditJournal<T>,
-    bound: Option<LogBound>,
+    terms: EpochTerms<T>,
     writer: &mut W,
 ) -> Result<(Accepted, Totals), Fault>
 where
@@ -42,7 +53,7 @@ where
     L: MarkLog + Drop + Send + 'static,
     W: Write,
 {
-    serve_all::<Brand, T, L, W>(rt, alloc, opened, log, port, journal, bound, writer)
+    serve_all::<Brand, T, L, W>(rt, alloc, opened, log, port, terms, writer)
 }
 
 /// Opens the service, says so, and closes it once its connections have ended, or the epoch turns. What is printed
@@ -58,8 +69,7 @@ fn serve_all<J, T, L, W>(
     opened: Opened,
     log: Option<L>,
     port: &mut Port,
-    journal: AuditJournal<T>,
-    bound: Option<LogBound>,
+    terms: EpochTerms<T>,
     writer: &mut W,
 ) -> Result<(Accepted, Totals), Fault>
 where
@@ -72,7 +82,7 @@ where
 {
     let gate = port.waker.copy()?;
     let service = Service::<J>::open_logged(rt, alloc, opened, gate, log)?;
-    let done = say_and_attend(rt, alloc, &service, port, journal, bound, writer);
+    let done = say_and_attend(rt, alloc, &service, port, terms, writer);
     close(&rt, service, done)
 }
 
@@ -104,8 +114,7 @@ fn say_and_attend<J, T, W>(
     alloc: Global,
     service: &Service<J>,
     port: &mut Port,
-    journal: AuditJournal<T>,
-    bound: Option<LogBound>,
+    terms: EpochTerms<T>,
     writer: &mut W,
 ) -> Result<Accepted, Fault>
 where
@@ -117,7 +126,7 @@ where
         port.is_said = true;
         print(alloc, &TalkOut::Serving(port.number), writer)?;
     }
-    attend_all(rt, alloc, service, port, journal, bound)
+    attend_all(rt, alloc, service, port, terms)
 }
 
 /// Serves the connections. Meanwhile the figures are watched.
@@ -130,18 +139,17 @@ fn attend_all<J, T>(
     alloc: Global,
     service: &Service<J>,
     port: &mut Port,
-    journal: AuditJournal<T>,
-    bound: Option<LogBound>,
+    terms: EpochTerms<T>,
 ) -> Result<Accepted, Fault>
 where
     J: ServiceNames + Send + Sync + 'static,
     T: Host,
 {
-    if journal.has_file() {
+    if terms.journal.has_file() {
         service.keep_records(&rt);
     }
     let (end, ended) = ends_of(alloc)?;
-    let Ok(shared) = Arc::new(alloc, shared_of(alloc, service, port, journal, bound)?) else {
+    let Ok(shared) = Arc::new(alloc, shared_of(alloc, service, port, terms)?) else {
         return Err(Fault::Memory);
     };
     let watching = watch_beside(rt, alloc, &shared, ended)?;
@@ -172,6 +180,8 @@ pub(crate) struct Shared<J: ServiceNames, T: Wait + Copy> {
     pub gauge: Gauge<J>,
     pub connections: Arc<Connections, Global>,
     pub journal: AuditJournal<T>,
+    /// What the epoch opened on: the stamps that are shown of first values.
+    pub opening: Arc<Opening, Global>,
     pub limits: Limits,
     /// The input, where the service ends with it.
     pub input: Option<Arc<Input, Global>>,
@@ -225,13 +235,17 @@ fn shared_of<J: ServiceNames, T: Wait + Copy>(
     alloc: Global,
     service: &Service<J>,
     port: &Port,
-    journal: AuditJournal<T>,
-    bound: Option<LogBound>,
+    terms: EpochTerms<T>,
 ) -> Result<Shared<J, T>, Refusal> {
     let input = match &port.input {
         Some(input) => Some(Arc::try_clone(input)?),
         None => None,
     };
+    let EpochTerms {
+        journal,
+        bound,
+        opening,
+    } = terms;
     let turn = match bound {
         Some(bound) => Some(Turn::new(port.waker.copy()?, bound)),
         None => None,
@@ -240,6 +254,7 @@ fn shared_of<J: ServiceNames, T: Wait + Copy>(
         gauge: service.gauge()?,
         connections: Arc::try_clone(&port.connections)?,
         journal,
+        opening,
         limits: port.limits,
         input,
         stats: port.stats,

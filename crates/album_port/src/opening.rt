@@ -5,7 +5,7 @@ ghost use Rattle.album_items.specs.Openings.{is_opening};
 use album_items::Opening;
 use album_judge::{Fault, PIECE};
 use album_lines::{LineIn, Lines};
-use album_replay::{SoFar, first_line, later_line, opening_of};
+use album_replay::{SoFar, first_line, later_line};
 use album_stamps::Refusal;
 use json::Scratch;
 use std::alloc::Global;
@@ -152,8 +152,8 @@ impl TakenLines {
             self.line = self.line.saturating_add(1);
             if !line.is_blank() {
                 match self.next(line)? {
-                    SoFar::Whole(header, rows) => return Ok(Some(opening_of(header, rows))),
-                    SoFar::More(header, rows) => self.so_far = Some(SoFar::More(header, rows)),
+                    SoFar::Whole(header, values) => return Ok(Some(values.into_opening(header))),
+                    SoFar::More(header, values) => self.so_far = Some(SoFar::More(header, values)),
                 }
             }
         }
@@ -164,10 +164,10 @@ impl TakenLines {
     fn next(&mut self, line: &LineIn) -> Result<SoFar, Refusal> {
         match self.so_far.take() {
             None => first_line(self.alloc, &mut self.scratch, line),
-            Some(SoFar::More(header, rows)) => {
-                later_line(self.alloc, &mut self.scratch, header, rows, line)
+            Some(SoFar::More(header, values)) => {
+                later_line(self.alloc, &mut self.scratch, header, values, line)
             }
-            Some(SoFar::Whole(header, rows)) => Ok(SoFar::Whole(header, rows)),
+            Some(SoFar::Whole(header, values)) => Ok(SoFar::Whole(header, values)),
         }
     }
 }

@@ -5,6 +5,7 @@
 //! only epoch of a port (`epochs`).
 use crate::audit_file::AuditFile;
 use crate::epochs::Port;
+use crate::one_epoch::EpochTerms;
 use crate::opening::{Unopened, read_opening};
 use crate::waker::{Door, Waker};
 use album_audit::Totals;
@@ -19,7 +20,7 @@ use std::fs::File;
 use std::io::{Read, Write};
 use std::net::{Net, TcpListener, TcpStream};
 use std::rt::Files;
-use std::sync::Wait;
+use std::sync::{Arc, Wait};
 use std::thread::Threads;
 use std::time;
 
@@ -185,8 +186,11 @@ where
     serve_begun(rt, alloc, begun, input, writer, serving, audit)
 }
 
+/// The state that was opened, and what it opened on.
+type OpenedOn = (Opened, Arc<Opening, Global>);
+
 /// What was opened, the door at its port, and what wakes who waits there; or how `serve` ends without them.
-type Begun = Result<(Opened, Door, Waker), Served>;
+type Begun = Result<(OpenedOn, Door, Waker), Served>;
 
 /// Reads the opening, opens the service's state by it for so many sessions, and listens at the port; or else answers
 /// why not.
@@ -212,9 +216,13 @@ fn open<T: Host, R: Read, W: Write>(
     writer: &mut W,
     turns: u64,
     sessions: u16,
-) -> Result<Result<Opened, Served>, Fault> {
-    match first_opening(rt, alloc, reader, writer, turns)? {
-        Ok(opening) => open_by(rt, alloc, &opening, writer, sessions),
+) -> Result<Result<OpenedOn, Served>, Fault> {
+    let opening = match first_opening(rt, alloc, reader, writer, turns)? {
+        Ok(opening) => Arc::new(alloc, opening).map_err(|_| Fault::Memory)?,
+        Err(served) => return Ok(Err(served)),
+    };
+    match open_by(rt, alloc, &opening, writer, sessions)? {
+        Ok(opened) => Ok(Ok((opened, opening))),
         Err(served) => Ok(Err(served)),
     }
 }
@@ -269,7 +277,7 @@ fn refuse<W: Write>(
 }
 
 /// Listens at the port. Why it can't be had is printed on standard error.
-fn listen<T: Host>(rt: &T, alloc: Global, opened: Opened, port: u16) -> Begun {
+fn listen<T: Host>(rt: &T, alloc: Global, opened: OpenedOn, port: u16) -> Begun {
     match Door::open(rt, alloc, port) {
         Ok((door, waker)) => Ok((opened, door, waker)),
         Err(error) => {
@@ -294,7 +302,7 @@ where
     R: Read + Send + Drop + 'static,
     W: Write,
 {
-    let (opened, door, waker) = match begun {
+    let ((opened, opening), door, waker) = match begun {
         Ok(begun) => begun,
         Err(served) => return Ok(served),
     };
@@ -302,8 +310,12 @@ where
     if let Some(reader) = reader {
         port.end_with(rt, alloc, reader)?;
     }
-    let journal = port.journal(rt, alloc, audit)?;
-    let ended = port.serve(rt, alloc, opened, None::<NoLog>, None, journal, writer);
+    let terms = EpochTerms {
+        journal: port.journal(rt, alloc, audit)?,
+        bound: None,
+        opening,
+    };
+    let ended = port.serve(rt, alloc, opened, None::<NoLog>, terms, writer);
     port.close(rt, alloc, ended, writer)
 }
 

@@ -8,7 +8,7 @@ use Rattle.std.proofs.lemmas.List.{map-append}
 use Rattle.std.proofs.lemmas.List.Elements.{filter-append}
 use Rattle.album_stamps.specs.declared.refusals.Refusal.{Refusal}
 use Rattle.album_stamps.specs.declared.refusals.Refusal.TheVariants.{OutOfMemory, BadOpening, BadRequest}
-use Rattle.album_items.specs.Openings.{Row, is_opening, is_base_opening}
+use Rattle.album_items.specs.Openings.{is_opening, is_base_opening}
 use Rattle.album_items.proofs.BaseLemmas.{opening_is_base}
 use Rattle.album_items.specs.declared.openings.Opening.{Opening}
 use Rattle.album_calls.specs.declared.messages.Message.{Message}
@@ -30,18 +30,20 @@ use Rattle.album_wire.specs.EventLine.{deliveries}
 use Rattle.album_lines.specs.Lines.{Line, is_blank, lines_of}
 use Rattle.album_lines.specs.Output.{refusal_line}
 use Rattle.album_wire.specs.OutJson.{out_line}
+use Rattle.album_wire.specs.ShownStamps.{out_shown}
 use Rattle.album_wire.specs.declared.event_shape.Spelled.{Spelled}
 use Rattle.album_wire.specs.declared.event_shape.Spelled.TheVariants as spelled
 use Rattle.album_wire.specs.declared.opening_line.OpeningLine.{OpeningLine}
 use Rattle.album_wire.specs.declared.opening_line.OpeningLine.TheVariants as line
 use Rattle.album_wire.specs.declared.opening_shape.Header.{Header}
-use Rattle.album_replay.specs.Replay.{Epoch, epoch_after, Stage, Unopened, BeingOpened, Running, Over, Step, refused, silently, opening_of, first_line, later_line, opened_by, message_shown, event_text, delivery_text, Happens, Delivers, Runs, opening_line_read, event_line_read, IsOpened, IsPrinted, IsRun, IsRestart, Takes, IsStep, Replays, IsReplay, end_text}
-use Rattle.album_replay.specs.Promise.{IsCarriedOver, Opens, opening_said, item_said, events_read, events_spelled, AreAmong, Spell, IsSpelledBy, AllHold, IsOf, Printed, Refused, Restarted, Output, text_of, IsRight, IsAsPromised}
+use Rattle.album_wire.specs.FirstValues.{ValuesSaid, no_values, with_value, opening_of}
+use Rattle.album_replay.specs.Replay.{Epoch, epoch_after, Stage, Unopened, BeingOpened, Running, Over, Step, refused, silently, first_line, later_line, opened_by, message_shown, event_text, delivery_text, Happens, Delivers, Runs, opening_line_read, event_line_read, IsOpened, IsPrinted, IsRun, IsRestart, Takes, IsStep, Replays, IsReplay, end_text, Showing, showing, showing_of}
+use Rattle.album_replay.specs.Promise.{IsCarriedOver, Opens, opening_said, ItemSaid, item_said, with_items, events_read, events_spelled, AreAmong, Spell, IsSpelledBy, AllHold, IsOf, Printed, Refused, Restarted, Output, text_of, IsRight, IsAsPromised}
 use Rattle.album_replay.specs.Promise.AreAmong.{nothing, taken, left}
 use Rattle.album_replay.specs.Promise.Opens.{First, Next}
 use Rattle.album_restarts.specs.Next.{IsNextOpening}
 use Rattle.album_restarts.proofs.BaseLemmas.{next_base}
-use Rattle.album_restarts.proofs.NextLemmas.{rows_carried}
+use Rattle.album_restarts.proofs.NextLemmas.{rows_carried, stamps_carried}
 use Rattle.album_judge.specs.Writes.{Writes}
 
 -- ---- some of the events
@@ -133,7 +135,7 @@ module _ (input lines later first others : List Line) (before : input ≡ lines 
   -- the outputs of the event are of the world after it
   event_parts : (es all : List Event) (e : Event) (trace : Bool) → AreAmong (es ++ e ∷ []) (events_spelled others)
       → (ch : Change) → change_of (terms_of o) (run_of o es).now e ≡ Ok ch
-      → Parts input (flat_map (λ output. out_line output
+      → Parts input (flat_map (λ output. out_line (out_shown o.stamps output)
       (message_shown trace (now_after (run_of o es).now ch) output)) (outs_of (run_of o es).now ch))
   event_parts es all e trace among ch is =
       let w = run_of o es in
@@ -144,7 +146,7 @@ module _ (input lines later first others : List Line) (before : input ≡ lines 
       (ap (outs_by w.now) is) (in_past_given o es (opens_base first number o opens) e) in
       record {
         parts = map of outs;
-        whole = text_map outs of (λ output. out_line output (shown output)) (λ output. refl);
+        whole = text_map outs of (λ output. out_line (out_shown o.stamps output) (shown output)) (λ output. refl);
         right = λ part i.
             let d = in_map of outs i in
             subst (IsRight input) (sym d.2)
@@ -164,14 +166,14 @@ module _ (input lines later first others : List Line) (before : input ≡ lines 
     pub among : AreAmong some all
     pub parts : Parts input text
 
-  module _ (text_by : Bool → Now → Result Change Refusal → List ℕ)
+  module _ (text_by : Showing → Now → Result Change Refusal → List ℕ)
       (says : (trace : Bool) (now : Now) (ch : Change)
-      → text_by trace now (Ok ch) ≡ flat_map (λ output. out_line output
+      → text_by (showing trace o.stamps) now (Ok ch) ≡ flat_map (λ output. out_line (out_shown o.stamps output)
       (message_shown trace (now_after now ch) output)) (outs_of now ch))
-      (refuses : (trace : Bool) (now : Now) (r : Refusal) → Parts input (text_by trace now (Err r))) where
+      (refuses : (trace : Bool) (now : Now) (r : Refusal) → Parts input (text_by (showing trace o.stamps) now (Err r))) where
     happens_parts : (es all rest : List Event) (e : Event) (trace : Bool) → AreAmong es all
         → events_spelled others ≡ (all ++ e ∷ []) ++ rest → (next : World) (text : List ℕ)
-        → Happens text_by (terms_of o) trace (run_of o es) e next text → Goes es (all ++ e ∷ []) next text
+        → Happens text_by (terms_of o) (showing trace o.stamps) (run_of o es) e next text → Goes es (all ++ e ∷ []) next text
     happens_parts es all rest e trace among here next text (inl h) = record {
       some = es ++ e ∷ [];
       now = h.0 ∙ sym (run_more (terms_of o) (start o) es e);
@@ -180,7 +182,7 @@ module _ (input lines later first others : List Line) (before : input ≡ lines 
     }
       where
         go : (f : Result Change Refusal) → change_of (terms_of o) (run_of o es).now e ≡ f
-            → Parts input (text_by trace (run_of o es).now f)
+            → Parts input (text_by (showing trace o.stamps) (run_of o es).now f)
         go (Ok ch) is = subst (Parts input) (sym (says trace (run_of o es).now ch))
             (event_parts es all e trace
             (subst (AreAmong (es ++ e ∷ [])) (sym here)
@@ -195,7 +197,7 @@ module _ (input lines later first others : List Line) (before : input ≡ lines 
 
   delivers_parts : (events es all : List Event) (trace : Bool) → AreAmong es all
       → events_spelled others ≡ all ++ events → (next : World) (text : List ℕ)
-      → Delivers (terms_of o) trace (run_of o es) events next text → Goes es (all ++ events) next text
+      → Delivers (terms_of o) (showing trace o.stamps) (run_of o es) events next text → Goes es (all ++ events) next text
   delivers_parts [] es all trace among here next text h = record {
     some = es;
     now = h.0;
@@ -206,7 +208,7 @@ module _ (input lines later first others : List Line) (before : input ≡ lines 
       let at : events_spelled others ≡ (all ++ e ∷ []) ++ events = here ∙ sym (append_assoc all (e ∷ []) events) in
       let one = happens_parts delivery_text (λ t n ch. refl) (λ t n r. no_parts input) es all events e trace among at h.0 h.1 h.3 in
       let more = delivers_parts events one.some (all ++ e ∷ []) trace one.among at next h.2
-      (subst (λ (z : World). Delivers (terms_of o) trace z events next h.2) one.now h.4) in
+      (subst (λ (z : World). Delivers (terms_of o) (showing trace o.stamps) z events next h.2) one.now h.4) in
       record {
         some = more.some;
         now = more.now;
@@ -239,6 +241,12 @@ spelled_more lines l b e =
     ∙ ap (λ (z : List Event). events_spelled lines ++ z)
     (append-nil (if is_blank l then [] else events_read (event_line_read l)) ∙ ap (λ (f : Bool). events_on f l) e)
 
+-- one more item
+with_more : (values : ValuesSaid) (items : List ItemSaid) (one : ItemSaid)
+    → with_items values (items ++ one ∷ []) ≡ with_value (with_items values items) one.item one.stamp one.value
+with_more values [] one = refl
+with_more values (said ∷ items) one = with_more (with_value values said.item said.stamp said.value) items one
+
 -- ---- the stage of a replay
 
 -- the lines that were read spell the world
@@ -247,9 +255,15 @@ pub record RunsIt (done : List Line) (epoch : Epoch) (world : World) : Type 0 wh
   pub spelled : Spell done epoch.number epoch.opening events
   pub now : world ≡ run_of epoch.opening events
 
+-- the lines that were read say the header and these items
+pub record SaysIt (done : List Line) (header : Header) (values : ValuesSaid) : Type 0 where
+  pub items : List ItemSaid
+  pub said : opening_said done ≡ Ok (line.Open header) ∷ map item_said items
+  pub are : values ≡ with_items no_values items
+
 abbrev StandsBy : List Line → Stage → Type 0
 StandsBy done Unopened = opening_said done ≡ []
-StandsBy done (BeingOpened header rows) = opening_said done ≡ Ok (line.Open header) ∷ map item_said rows
+StandsBy done (BeingOpened header values) = SaysIt done header values
 StandsBy done (Running epoch world) = RunsIt done epoch world
 StandsBy done Over = Unit {0}
 
@@ -274,7 +288,11 @@ module _ (input done : List Line) (l : Line) (later : List Line) (before : input
   -- a blank line
   blank_stands : is_blank l ≡ true → (stage : Stage) → StandsBy done stage → StandsBy now_done stage
   blank_stands e Unopened h = said_more done l true e ∙ append-nil (opening_said done) ∙ h
-  blank_stands e (BeingOpened header rows) h = said_more done l true e ∙ append-nil (opening_said done) ∙ h
+  blank_stands e (BeingOpened header values) h = record {
+    items = h.items;
+    said = said_more done l true e ∙ append-nil (opening_said done) ∙ h.said;
+    are = h.are;
+  }
   blank_stands e (Running epoch world) h =
       let s = h.spelled in
       record {
@@ -298,34 +316,45 @@ module _ (input done : List Line) (l : Line) (later : List Line) (before : input
     -- the first line of an opening
     first_taken : StandsBy done Unopened → (r : Result OpeningLine Refusal) → opening_line_read l ≡ r → (step : Step)
         → step ≡ opened_by first_line r → IsTaken input now_done step
-    first_taken h (Ok (line.Open header)) e step is = silent_taken input now_done (BeingOpened header []) step
-        (said_now ∙ ap (λ (z : List (Result OpeningLine Refusal)). z ++ opening_line_read l ∷ []) h
-        ∙ ap (λ (z : Result OpeningLine Refusal). z ∷ []) e) is
-    first_taken h (Ok (line.Item item value)) e step is = over_taken input now_done BadRequest step is
+    first_taken h (Ok (line.Open header)) e step is = silent_taken input now_done (BeingOpened header no_values) step
+        (record {
+          items = [];
+          said =
+              said_now ∙ ap (λ (z : List (Result OpeningLine Refusal)). z ++ opening_line_read l ∷ []) h
+              ∙ ap (λ (z : Result OpeningLine Refusal). z ∷ []) e;
+          are = refl;
+        }) is
+    first_taken h (Ok (line.Item item stamp value)) e step is = over_taken input now_done BadRequest step is
     first_taken h (Ok line.Begin) e step is = over_taken input now_done BadRequest step is
     first_taken h (Err r) e step is = over_taken input now_done r step is
 
     -- a later one
-    later_said : (header : Header) (rows : List Row) → StandsBy done (BeingOpened header rows)
+    later_said : (header : Header) (values : ValuesSaid) (h : StandsBy done (BeingOpened header values))
         → (said : OpeningLine) → opening_line_read l ≡ Ok said
-        → opening_said now_done ≡ (Ok (line.Open header) ∷ map item_said rows) ++ Ok said ∷ []
-    later_said header rows h said e =
-        said_now ∙ ap (λ (z : List (Result OpeningLine Refusal)). z ++ opening_line_read l ∷ []) h
-        ∙ ap (λ (z : Result OpeningLine Refusal). (Ok (line.Open header) ∷ map item_said rows) ++ z ∷ []) e
+        → opening_said now_done ≡ (Ok (line.Open header) ∷ map item_said h.items) ++ Ok said ∷ []
+    later_said header values h said e =
+        said_now ∙ ap (λ (z : List (Result OpeningLine Refusal)). z ++ opening_line_read l ∷ []) h.said
+        ∙ ap (λ (z : Result OpeningLine Refusal). (Ok (line.Open header) ∷ map item_said h.items) ++ z ∷ []) e
 
-    later_taken : (header : Header) (rows : List Row) → StandsBy done (BeingOpened header rows)
+    later_taken : (header : Header) (values : ValuesSaid) → StandsBy done (BeingOpened header values)
         → (r : Result OpeningLine Refusal) → opening_line_read l ≡ r → (step : Step)
-        → step ≡ opened_by (later_line header rows) r → IsTaken input now_done step
-    later_taken header rows h (Ok (line.Open other)) e step is = over_taken input now_done BadRequest step is
-    later_taken header rows h (Ok (line.Item item value)) e step is =
-        silent_taken input now_done (BeingOpened header (rows ++ (item, value) ∷ [])) step
-        (later_said header rows h (line.Item item value) e
-        ∙ ap (λ (z : List (Result OpeningLine Refusal)). Ok (line.Open header) ∷ z)
-        (sym (map-append item_said rows ((item, value) ∷ [])))) is
-    later_taken header rows h (Ok line.Begin) e step is = go (is_opening (opening_of header rows)) refl is
+        → step ≡ opened_by (later_line header values) r → IsTaken input now_done step
+    later_taken header values h (Ok (line.Open other)) e step is = over_taken input now_done BadRequest step is
+    later_taken header values h (Ok (line.Item item stamp value)) e step is =
+        let one : ItemSaid = record { item = item; stamp = stamp; value = value } in
+        silent_taken input now_done (BeingOpened header (with_value values item stamp value)) step
+        (record {
+          items = h.items ++ one ∷ [];
+          said =
+              later_said header values h (line.Item item stamp value) e
+              ∙ ap (λ (z : List (Result OpeningLine Refusal)). Ok (line.Open header) ∷ z)
+              (sym (map-append item_said h.items (one ∷ [])));
+          are = ap (λ (v : ValuesSaid). with_value v item stamp value) h.are ∙ sym (with_more no_values h.items one);
+        }) is
+    later_taken header values h (Ok line.Begin) e step is = go (is_opening (opening_of header values)) refl is
       where
         o : Opening
-        o = opening_of header rows
+        o = opening_of header values
 
         epoch : Epoch
         epoch = record { opening = o; number = 1; trace = header.trace }
@@ -342,9 +371,9 @@ module _ (input done : List Line) (l : Line) (later : List Line) (before : input
                 split = sym (append-nil now_done);
                 opens = First now_done o (record {
                   header = header;
-                  rows = rows;
-                  said = later_said header rows h line.Begin e;
-                  is = refl;
+                  items = h.items;
+                  said = later_said header values h line.Begin e;
+                  is = ap (opening_of header) h.are;
                   passes = passes;
                 });
                 among = nothing;
@@ -352,7 +381,7 @@ module _ (input done : List Line) (l : Line) (later : List Line) (before : input
               now = refl;
             }) k
         go false passes k = over_taken input now_done BadOpening step k
-    later_taken header rows h (Err r) e step is = over_taken input now_done r step is
+    later_taken header values h (Err r) e step is = over_taken input now_done r step is
 
     -- a line of events
     module _ (epoch : Epoch) (es : List Event) (s : Spell done epoch.number epoch.opening es) where
@@ -403,7 +432,7 @@ module _ (input done : List Line) (l : Line) (later : List Line) (before : input
         pub parts : Parts input text
 
       runs_on : (r : Result Spelled Refusal) → event_line_read l ≡ r → (next : World) (text : List ℕ)
-          → Runs (terms_of o) epoch.trace (run_of o es) r next text → IsRunOn next text
+          → Runs (terms_of o) (showing epoch.trace o.stamps) (run_of o es) r next text → IsRunOn next text
       runs_on (Ok (spelled.One e)) read next text h =
           let here : events_spelled others_now ≡ events_spelled s.others ++ e ∷ [] =
           spelled_more s.others l false dark ∙ ap (λ (z : Result Spelled Refusal). events_spelled s.others ++ events_read z) read in
@@ -423,7 +452,7 @@ module _ (input done : List Line) (l : Line) (later : List Line) (before : input
         parts = subst (Parts input) (sym h.1) (refused_part input r);
       }
 
-      printed_on : (next : World) (text : List ℕ) → IsPrinted (terms_of o) epoch.trace l (run_of o es) next text
+      printed_on : (next : World) (text : List ℕ) → IsPrinted (terms_of o) (showing epoch.trace o.stamps) l (run_of o es) next text
           → IsRunOn next text
       printed_on next text (inl h) = runs_on (event_line_read l) refl next text h
       printed_on next text (inr h) = record {
@@ -434,8 +463,8 @@ module _ (input done : List Line) (l : Line) (later : List Line) (before : input
     run_taken : (epoch : Epoch) (world : World) → RunsIt done epoch world → (step : Step)
         → IsRun epoch world l step → IsTaken input now_done step
     run_taken epoch world h step r =
-        let printed : IsPrinted (terms_of epoch.opening) epoch.trace l (run_of epoch.opening h.events) r.world_then step.text =
-        subst (λ (w : World). IsPrinted (terms_of epoch.opening) epoch.trace l w r.world_then step.text) h.now r.printed in
+        let printed : IsPrinted (terms_of epoch.opening) (showing_of epoch) l (run_of epoch.opening h.events) r.world_then step.text =
+        subst (λ (w : World). IsPrinted (terms_of epoch.opening) (showing_of epoch) l w r.world_then step.text) h.now r.printed in
         let on = printed_on epoch h.events h.spelled r.world_then step.text printed in
         record { stands = subst (StandsBy now_done) (sym r.runs) on.stands; parts = on.parts }
 
@@ -445,7 +474,11 @@ module _ (input done : List Line) (l : Line) (later : List Line) (before : input
       over =
           let leaves = subst (λ (w : World). IsNextOpening epoch.opening w.now r.next) h.now r.leaves in
           let base = opens_base h.spelled.first epoch.number epoch.opening h.spelled.opens in
-          record { leaves = leaves; rows = rows_carried epoch.opening r.next h.events base leaves }
+          record {
+            leaves = leaves;
+            rows = rows_carried epoch.opening r.next h.events base leaves;
+            stamps = stamps_carried epoch.opening r.next h.events base leaves;
+          }
 
       opens_now : Opens now_done (epoch.number + 1) r.next
       opens_now =
@@ -490,8 +523,8 @@ module _ (input done : List Line) (l : Line) (later : List Line) (before : input
 
     dark_taken : (stage : Stage) → StandsBy done stage → (step : Step) → Takes stage l step → IsTaken input now_done step
     dark_taken Unopened h step t = opened_taken _ step t (first_taken h (opening_line_read l) refl)
-    dark_taken (BeingOpened header rows) h step t =
-        opened_taken _ step t (later_taken header rows h (opening_line_read l) refl)
+    dark_taken (BeingOpened header values) h step t =
+        opened_taken _ step t (later_taken header values h (opening_line_read l) refl)
     dark_taken (Running epoch world) h step (inl t) = run_taken epoch world h step t
     dark_taken (Running epoch world) h step (inr t) = restart_taken epoch world h step t
     dark_taken Over h step t = silent_taken input now_done Over step tt t
@@ -528,7 +561,7 @@ lines_taken input done (l ∷ lines) is stage h last text r =
 
 end_parts : (input : List Line) (last : Stage) → Parts input (end_text last)
 end_parts input Unopened = refused_part input BadOpening
-end_parts input (BeingOpened header rows) = refused_part input BadOpening
+end_parts input (BeingOpened header values) = refused_part input BadOpening
 end_parts input (Running epoch world) = no_parts input
 end_parts input Over = no_parts input
 

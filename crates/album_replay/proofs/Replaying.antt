@@ -13,37 +13,37 @@ use Rattle.album_lines.specs.Lines.{Line, is_blank, cut, last, ended, begun, lin
 use Rattle.album_wire.specs.EventLine.{deliveries}
 use Rattle.album_wire.specs.declared.event_shape.Spelled.{Spelled}
 use Rattle.album_wire.specs.declared.event_shape.Spelled.TheVariants as spelled
-use Rattle.album_replay.specs.Replay.{Stage, Unopened, BeingOpened, Running, Over, silently, Delivers, Runs, IsStep, Takes, Replays, IsReplay, event_line_read, delivered, line_run, taken, step_of, replayed, end_text, replay_text}
+use Rattle.album_replay.specs.Replay.{Stage, Unopened, BeingOpened, Running, Over, silently, Delivers, Runs, IsStep, Takes, Replays, IsReplay, event_line_read, delivered, line_run, taken, step_of, replayed, end_text, replay_text, Showing, showing_of}
 use Rattle.album_judge.specs.Writes.{IsPrefixOf}
 use Rattle.album_judge.proofs.Pieces.{lines_split}
 
-pub delivers : (terms : Terms) (trace : Bool) (world : World) (events : List Event)
-    → Delivers terms trace world events (delivered terms trace world events).0 (delivered terms trace world events).1
-delivers terms trace world [] = (refl, refl)
-delivers terms trace world (event ∷ events) = (
+pub delivers : (terms : Terms) (how : Showing) (world : World) (events : List Event)
+    → Delivers terms how world events (delivered terms how world events).0 (delivered terms how world events).1
+delivers terms how world [] = (refl, refl)
+delivers terms how world (event ∷ events) = (
   happens terms world event,
   _,
-  (delivered terms trace (happens terms world event) events).1,
+  (delivered terms how (happens terms world event) events).1,
   inl (refl, refl),
-  delivers terms trace (happens terms world event) events,
+  delivers terms how (happens terms world event) events,
   refl,
 )
 
-prints : (terms : Terms) (trace : Bool) (world : World) (read : Result Spelled Refusal)
-    → Runs terms trace world read (line_run terms trace world read).0 (line_run terms trace world read).1
-    ⊎ (((line_run terms trace world read).0 ≡ world) × ((line_run terms trace world read).1 ≡ refusal_line OutOfMemory))
-prints terms trace world (Ok (spelled.One event)) = inl (inl (refl, refl))
-prints terms trace world (Ok (spelled.Range first last)) = inl (delivers terms trace world (deliveries first last))
-prints terms trace world (Ok spelled.Restart) = inr (refl, refl)
-prints terms trace world (Err refusal) = inl (refl, refl)
+prints : (terms : Terms) (how : Showing) (world : World) (read : Result Spelled Refusal)
+    → Runs terms how world read (line_run terms how world read).0 (line_run terms how world read).1
+    ⊎ (((line_run terms how world read).0 ≡ world) × ((line_run terms how world read).1 ≡ refusal_line OutOfMemory))
+prints terms how world (Ok (spelled.One event)) = inl (inl (refl, refl))
+prints terms how world (Ok (spelled.Range first last)) = inl (delivers terms how world (deliveries first last))
+prints terms how world (Ok spelled.Restart) = inr (refl, refl)
+prints terms how world (Err refusal) = inl (refl, refl)
 
 takes : (stage : Stage) (line : Line) → Takes stage line (taken stage line)
 takes Unopened line = inl refl
-takes (BeingOpened header rows) line = inl refl
+takes (BeingOpened header values) line = inl refl
 takes (Running epoch world) line = inl (record {
-  world_then = (line_run (terms_of epoch.opening) epoch.trace world (event_line_read line)).0;
+  world_then = (line_run (terms_of epoch.opening) (showing_of epoch) world (event_line_read line)).0;
   runs = refl;
-  printed = prints (terms_of epoch.opening) epoch.trace world (event_line_read line);
+  printed = prints (terms_of epoch.opening) (showing_of epoch) world (event_line_read line);
 })
 takes Over line = refl
 

@@ -10,8 +10,9 @@
 use Rattle.std.specs.Prelude.{◌≡◌, ◌+◌, ℕ, List, [], ◌∷◌, ◌++◌, not, true, map, filter, if◌then◌else◌, Contains, Option, Result, Ok, Err}
 use Rattle.std.specs.List.{flat_map}
 use Rattle.album_stamps.specs.declared.refusals.Refusal.{Refusal}
-use Rattle.album_items.specs.Openings.{Row, is_opening}
+use Rattle.album_items.specs.Openings.{is_opening}
 use Rattle.album_items.specs.declared.openings.Opening.{Opening}
+use Rattle.album_items.specs.declared.values.Value.{Value}
 use Rattle.album_calls.specs.declared.messages.Message.{Message}
 use Rattle.album_client.specs.Terms.{terms_of}
 use Rattle.album_world.specs.Past.{World}
@@ -28,10 +29,12 @@ use Rattle.album_world.specs.Updates.{NoUpdateIsLost}
 use Rattle.album_permits.specs.declared.events.Event.{Event}
 use Rattle.album_permits.specs.declared.outs.Out.{Out}
 use Rattle.album_permits.specs.declared.outs.Out.TheVariants as out
+use Rattle.album_wire.specs.FirstValues.{ValuesSaid, no_values, with_value, opening_of}
 use Rattle.album_wire.specs.EventLine.{deliveries}
 use Rattle.album_lines.specs.Lines.{Line, is_blank, lines_of}
 use Rattle.album_lines.specs.Output.{refusal_line}
 use Rattle.album_wire.specs.OutJson.{out_line}
+use Rattle.album_wire.specs.ShownStamps.{out_shown}
 use Rattle.album_wire.specs.declared.event_shape.Spelled.{Spelled}
 use Rattle.album_wire.specs.declared.event_shape.Spelled.TheVariants as spelled
 use Rattle.album_wire.specs.declared.opening_line.OpeningLine.{OpeningLine}
@@ -39,10 +42,10 @@ use Rattle.album_wire.specs.declared.opening_line.OpeningLine.TheVariants as lin
 use Rattle.album_wire.specs.declared.opening_shape.Header.{Header}
 use Rattle.album_wire.specs.TalkJson.{talk_text}
 use Rattle.album_wire.specs.declared.talk_json.TalkOut.TheVariants as talk
-use Rattle.album_epochs.specs.Carried.{AreNextRows}
+use Rattle.album_epochs.specs.Carried.{AreNextRows, AreNextStamps}
 use Rattle.album_restarts.specs.Next.{IsNextOpening}
 use Rattle.album_restarts.specs.Worlds.{cut_of_world}
-use Rattle.album_replay.specs.Replay.{Epoch, event_line_read, opening_line_read, opening_of}
+use Rattle.album_replay.specs.Replay.{Epoch, event_line_read, opening_line_read}
 
 -- ---- what lines spell
 
@@ -50,16 +53,26 @@ use Rattle.album_replay.specs.Replay.{Epoch, event_line_read, opening_line_read,
 abbrev pub opening_said : List Line → List (Result OpeningLine Refusal)
 opening_said lines = map opening_line_read (filter (λ line. not (is_blank line)) lines)
 
--- an item with its first value
-abbrev pub item_said : Row → Result OpeningLine Refusal
-item_said row = Ok (line.Item row.0 row.1)
+-- an item, its first value, and the stamp of that
+pub record ItemSaid : Type 0 where
+  pub item : ℕ
+  pub stamp : ℕ
+  pub value : Value
+
+abbrev pub item_said : ItemSaid → Result OpeningLine Refusal
+item_said said = Ok (line.Item said.item said.stamp said.value)
+
+-- these items one after another
+abbrev pub with_items : ValuesSaid → List ItemSaid → ValuesSaid
+with_items values [] = values
+with_items values (said ∷ items) = with_items (with_value values said.item said.stamp said.value) items
 
 -- a header, the items, and that these are all; and the opening that this makes passes its check
 pub record SpellsOpening (lines : List Line) (opening : Opening) : Type 0 where
   pub header : Header
-  pub rows : List Row
-  pub said : opening_said lines ≡ Ok (line.Open header) ∷ map item_said rows ++ Ok line.Begin ∷ []
-  pub is : opening ≡ opening_of header rows
+  pub items : List ItemSaid
+  pub said : opening_said lines ≡ Ok (line.Open header) ∷ map item_said items ++ Ok line.Begin ∷ []
+  pub is : opening ≡ opening_of header (with_items no_values items)
   pub passes : is_opening opening ≡ true
 
 -- the events that a line spells, where it is read
@@ -79,10 +92,11 @@ pub data AreAmong : List Event → List Event → Type 0 where
   taken : {event : Event} {some all : List Event} → AreAmong some all → AreAmong (event ∷ some) (event ∷ all)
   left : {event : Event} {some all : List Event} → AreAmong some all → AreAmong some (event ∷ all)
 
--- an epoch opens on what the one before carries
+-- an epoch opens on what the one before carries, and shows it with the stamps at which it was written
 pub record IsCarriedOver (opening : Opening) (events : List Event) (next : Opening) : Type 0 where
   pub leaves : IsNextOpening opening (run_of opening events).now next
   pub rows : AreNextRows (cut_of_world opening (run_of opening events)) next.items
+  pub stamps : AreNextStamps (cut_of_world opening (run_of opening events)) opening.stamps next.stamps
 
 -- These lines led to the epoch of this number and opening: the first one's are those that spell it. The next one's go
 -- on with lines of which events have happened, and end in a restart; it opens on what is carried.
@@ -139,7 +153,7 @@ pub data Printed : Type 0 where
 abbrev pub text_of : Printed → List ℕ
 text_of (Refused refusal) = refusal_line refusal
 text_of (Restarted lines number opening) = talk_text (talk.Restarted number)
-text_of (Output lines number opening events output shown) = out_line output shown
+text_of (Output lines number opening events output shown) = out_line (out_shown opening.stamps output) shown
 
 -- the lines before it led to the epoch
 pub record IsOpenedBy (input lines : List Line) (number : ℕ) (opening : Opening) : Type 0 where

@@ -3,7 +3,8 @@ use Rattle.std.specs.Prelude.{◌≡◌, ◌≢◌, ◌⊎◌, ◌+◌, List, []
 use Rattle.std.specs.List.{flat_map}
 use Rattle.album_stamps.specs.declared.refusals.Refusal.{Refusal}
 use Rattle.album_stamps.specs.declared.refusals.Refusal.TheVariants.{OutOfMemory, BadLine, BadRequest, BadOpening}
-use Rattle.album_items.specs.Openings.{Row, is_opening}
+use Rattle.album_items.specs.FirstStamps.{Stamps}
+use Rattle.album_items.specs.Openings.{is_opening}
 use Rattle.album_items.specs.declared.openings.Opening.{Opening}
 use Rattle.album_calls.specs.declared.messages.Message.{Message}
 use Rattle.album_client.specs.Terms.{Terms, terms_of}
@@ -15,10 +16,12 @@ use Rattle.album_permits.specs.declared.events.Event.{Event}
 use Rattle.album_permits.specs.declared.outs.Out.{Out}
 use Rattle.album_permits.specs.declared.outs.Out.TheVariants as out
 use Rattle.album_lines.specs.Lines.{Line, is_blank, ended, lines_of}
+use Rattle.album_wire.specs.FirstValues.{ValuesSaid, no_values, with_value, opening_of}
 use Rattle.album_wire.specs.OpeningLine.{opening_line_of}
 use Rattle.album_wire.specs.EventLine.{event_line_of, deliveries}
 use Rattle.album_lines.specs.Output.{refusal_line}
 use Rattle.album_wire.specs.OutJson.{out_line}
+use Rattle.album_wire.specs.ShownStamps.{out_shown}
 use Rattle.album_wire.specs.declared.event_shape.Spelled.{Spelled}
 use Rattle.album_wire.specs.declared.event_shape.Spelled.TheVariants as spelled
 use Rattle.album_wire.specs.declared.opening_line.OpeningLine.{OpeningLine}
@@ -37,11 +40,22 @@ pub record Epoch : Type 0 where
   pub number : ℕ
   pub trace : Bool
 
+-- How outputs are shown: whether messages are, and with which stamps first values.
+pub record Showing : Type 0 where
+  pub trace : Bool
+  pub stamps : Stamps
+
+abbrev pub showing : Bool → Stamps → Showing
+showing trace stamps = record { trace = trace; stamps = stamps }
+
+abbrev pub showing_of : Epoch → Showing
+showing_of epoch = showing epoch.trace epoch.opening.stamps
+
 -- The stage of a replay between two lines. Nothing is opened yet; it is being opened, with these items so far; the
 -- world of an epoch runs; or the opening was refused. Then nothing more is printed.
 pub data Stage : Type 0 where
   Unopened : Stage
-  BeingOpened : Header → List Row → Stage
+  BeingOpened : Header → ValuesSaid → Stage
   Running : Epoch → World → Stage
   Over : Stage
 
@@ -59,18 +73,6 @@ refused refusal = record { next = Over; text = refusal_line refusal }
 abbrev pub silently : Stage → Step
 silently next = record { next = next; text = [] }
 
--- what the lines have said
-abbrev pub opening_of : Header → List Row → Opening
-opening_of header rows =
-    record {
-      parts = header.parts;
-      limit = header.limit;
-      policy = header.policy;
-      checked = header.checked;
-      first = header.first;
-      items = rows;
-    }
-
 -- the world of the first epoch opens, where it may
 abbrev pub begun : Opening → Bool → Step
 begun opening trace =
@@ -80,14 +82,15 @@ begun opening trace =
 
 -- The header comes first, then the items, then that these are all; a line out of this order is a bad request.
 abbrev pub first_line : OpeningLine → Step
-first_line (line.Open header) = silently (BeingOpened header [])
-first_line (line.Item item value) = refused BadRequest
+first_line (line.Open header) = silently (BeingOpened header no_values)
+first_line (line.Item item stamp value) = refused BadRequest
 first_line line.Begin = refused BadRequest
 
-abbrev pub later_line : Header → List Row → OpeningLine → Step
-later_line header rows (line.Open other) = refused BadRequest
-later_line header rows (line.Item item value) = silently (BeingOpened header (rows ++ (item, value) ∷ []))
-later_line header rows line.Begin = begun (opening_of header rows) header.trace
+abbrev pub later_line : Header → ValuesSaid → OpeningLine → Step
+later_line header values (line.Open other) = refused BadRequest
+later_line header values (line.Item item stamp value) =
+    silently (BeingOpened header (with_value values item stamp value))
+later_line header values line.Begin = begun (opening_of header values) header.trace
 
 -- a line that can't be read is refused by the first test that it fails
 abbrev pub opened_by : (OpeningLine → Step) → Result OpeningLine Refusal → Step
@@ -103,51 +106,52 @@ message_shown trace now (out.Noted client note) = None
 message_shown trace now (out.Answered client answer) = None
 
 -- the lines of outputs, with the messages that are there now
-abbrev pub outputs_text : Bool → Now → List Out → List ℕ
-outputs_text trace now outs = flat_map (λ output. out_line output (message_shown trace now output)) outs
+abbrev pub outputs_text : Showing → Now → List Out → List ℕ
+outputs_text how now outs =
+    flat_map (λ output. out_line (out_shown how.stamps output) (message_shown how.trace now output)) outs
 
 -- of an event its outputs, or its refusal
-abbrev pub event_text : Bool → Now → Result Change Refusal → List ℕ
-event_text trace now (Ok change) = outputs_text trace (now_after now change) (outs_of now change)
-event_text trace now (Err refusal) = refusal_line refusal
+abbrev pub event_text : Showing → Now → Result Change Refusal → List ℕ
+event_text how now (Ok change) = outputs_text how (now_after now change) (outs_of now change)
+event_text how now (Err refusal) = refusal_line refusal
 
 -- of a delivery in a range its outputs; that there is no such message, for which alone it is refused, is not printed
-abbrev pub delivery_text : Bool → Now → Result Change Refusal → List ℕ
-delivery_text trace now (Ok change) = outputs_text trace (now_after now change) (outs_of now change)
-delivery_text trace now (Err refusal) = []
+abbrev pub delivery_text : Showing → Now → Result Change Refusal → List ℕ
+delivery_text how now (Ok change) = outputs_text how (now_after now change) (outs_of now change)
+delivery_text how now (Err refusal) = []
 
 -- the one or the other: whether it is one of a range
-abbrev pub text_in : Bool → Bool → Now → Result Change Refusal → List ℕ
+abbrev pub text_in : Bool → Showing → Now → Result Change Refusal → List ℕ
 text_in false = event_text
 text_in true = delivery_text
 
 -- An event happens, and its text is printed. Where memory runs out on it, that is printed, and nothing has happened.
-abbrev pub Happens : (Bool → Now → Result Change Refusal → List ℕ)
-    → Terms → Bool → World → Event → World → List ℕ → Type 0
-Happens text_of terms trace world event next text =
-    ((next ≡ happens terms world event) × (text ≡ text_of trace world.now (change_of terms world.now event)))
+abbrev pub Happens : (Showing → Now → Result Change Refusal → List ℕ)
+    → Terms → Showing → World → Event → World → List ℕ → Type 0
+Happens text_of terms how world event next text =
+    ((next ≡ happens terms world event) × (text ≡ text_of how world.now (change_of terms world.now event)))
     ⊎ ((next ≡ world) × (text ≡ refusal_line OutOfMemory))
 
 -- the deliveries of a range happen one after another
-abbrev pub Delivers : Terms → Bool → World → List Event → World → List ℕ → Type 0
-Delivers terms trace world [] next text = (next ≡ world) × (text ≡ [])
-Delivers terms trace world (event ∷ events) next text =
+abbrev pub Delivers : Terms → Showing → World → List Event → World → List ℕ → Type 0
+Delivers terms how world [] next text = (next ≡ world) × (text ≡ [])
+Delivers terms how world (event ∷ events) next text =
     (between : World) × (first : List ℕ) × (others : List ℕ)
-    × Happens delivery_text terms trace world event between first
-    × Delivers terms trace between events next others
+    × Happens delivery_text terms how world event between first
+    × Delivers terms how between events next others
     × (text ≡ first ++ others)
 
 -- the events that a line spells; a restart is none of a world
-abbrev pub Spells : Terms → Bool → World → Spelled → World → List ℕ → Type 0
-Spells terms trace world (spelled.One event) next text = Happens event_text terms trace world event next text
-Spells terms trace world (spelled.Range first last) next text =
-    Delivers terms trace world (deliveries first last) next text
-Spells terms trace world spelled.Restart next text = ⊥
+abbrev pub Spells : Terms → Showing → World → Spelled → World → List ℕ → Type 0
+Spells terms how world (spelled.One event) next text = Happens event_text terms how world event next text
+Spells terms how world (spelled.Range first last) next text =
+    Delivers terms how world (deliveries first last) next text
+Spells terms how world spelled.Restart next text = ⊥
 
 -- a refused line changes nothing
-abbrev pub Runs : Terms → Bool → World → Result Spelled Refusal → World → List ℕ → Type 0
-Runs terms trace world (Ok events) next text = Spells terms trace world events next text
-Runs terms trace world (Err refusal) next text = (next ≡ world) × (text ≡ refusal_line refusal)
+abbrev pub Runs : Terms → Showing → World → Result Spelled Refusal → World → List ℕ → Type 0
+Runs terms how world (Ok events) next text = Spells terms how world events next text
+Runs terms how world (Err refusal) next text = (next ≡ world) × (text ≡ refusal_line refusal)
 
 -- ---- a line
 
@@ -165,16 +169,16 @@ abbrev pub IsOpened : Step → Step → Type 0
 IsOpened says step = (step ≡ says) ⊎ (step ≡ refused OutOfMemory)
 
 -- the line's events run, unless memory runs out on the line
-abbrev pub IsPrinted : Terms → Bool → Line → World → World → List ℕ → Type 0
-IsPrinted terms trace line world next text =
-    Runs terms trace world (event_line_read line) next text
+abbrev pub IsPrinted : Terms → Showing → Line → World → World → List ℕ → Type 0
+IsPrinted terms how line world next text =
+    Runs terms how world (event_line_read line) next text
     ⊎ ((next ≡ world) × (text ≡ refusal_line OutOfMemory))
 
 -- a step of the run
 pub record IsRun (epoch : Epoch) (world : World) (line : Line) (step : Step) : Type 0 where
   pub world_then : World
   pub runs : step.next ≡ Running epoch world_then
-  pub printed : IsPrinted (terms_of epoch.opening) epoch.trace line world world_then step.text
+  pub printed : IsPrinted (terms_of epoch.opening) (showing_of epoch) line world world_then step.text
 
 -- the epoch that opens on this, after another one
 abbrev pub epoch_after : Epoch → Opening → Epoch
@@ -191,7 +195,7 @@ pub record IsRestart (epoch : Epoch) (world : World) (line : Line) (step : Step)
 -- the step by a line that isn't blank
 abbrev pub Takes : Stage → Line → Step → Type 0
 Takes Unopened line step = IsOpened (opened_by first_line (opening_line_read line)) step
-Takes (BeingOpened header rows) line step = IsOpened (opened_by (later_line header rows) (opening_line_read line)) step
+Takes (BeingOpened header values) line step = IsOpened (opened_by (later_line header values) (opening_line_read line)) step
 Takes (Running epoch world) line step = IsRun epoch world line step ⊎ IsRestart epoch world line step
 Takes Over line step = step ≡ silently Over
 
@@ -211,7 +215,7 @@ Replays stage (line ∷ lines) last text =
 -- an input that ends before the world runs is no opening
 abbrev pub end_text : Stage → List ℕ
 end_text Unopened = refusal_line BadOpening
-end_text (BeingOpened header rows) = refusal_line BadOpening
+end_text (BeingOpened header values) = refusal_line BadOpening
 end_text (Running epoch world) = []
 end_text Over = []
 
@@ -265,33 +269,33 @@ IsOverBy given text = Replays Unopened (ended given) Over text
 -- ---- the same, where memory runs out on each restart, and never else
 
 -- the deliveries of a range, with their texts one after another
-abbrev pub delivered : Terms → Bool → World → List Event → World × List ℕ
-delivered terms trace world [] = (world, [])
-delivered terms trace world (event ∷ events) = (
-  (delivered terms trace (happens terms world event) events).0,
-  delivery_text trace world.now (change_of terms world.now event)
-      ++ (delivered terms trace (happens terms world event) events).1,
+abbrev pub delivered : Terms → Showing → World → List Event → World × List ℕ
+delivered terms how world [] = (world, [])
+delivered terms how world (event ∷ events) = (
+  (delivered terms how (happens terms world event) events).0,
+  delivery_text how world.now (change_of terms world.now event)
+      ++ (delivered terms how (happens terms world event) events).1,
 )
 
 -- the events that a line spells, with their text
-abbrev pub spelled_run : Terms → Bool → World → Spelled → World × List ℕ
-spelled_run terms trace world (spelled.One event) =
-    (happens terms world event, event_text trace world.now (change_of terms world.now event))
-spelled_run terms trace world (spelled.Range first last) = delivered terms trace world (deliveries first last)
-spelled_run terms trace world spelled.Restart = (world, refusal_line OutOfMemory)
+abbrev pub spelled_run : Terms → Showing → World → Spelled → World × List ℕ
+spelled_run terms how world (spelled.One event) =
+    (happens terms world event, event_text how world.now (change_of terms world.now event))
+spelled_run terms how world (spelled.Range first last) = delivered terms how world (deliveries first last)
+spelled_run terms how world spelled.Restart = (world, refusal_line OutOfMemory)
 
-abbrev pub line_run : Terms → Bool → World → Result Spelled Refusal → World × List ℕ
-line_run terms trace world (Ok events) = spelled_run terms trace world events
-line_run terms trace world (Err refusal) = (world, refusal_line refusal)
+abbrev pub line_run : Terms → Showing → World → Result Spelled Refusal → World × List ℕ
+line_run terms how world (Ok events) = spelled_run terms how world events
+line_run terms how world (Err refusal) = (world, refusal_line refusal)
 
 abbrev pub run_step : Epoch → World × List ℕ → Step
 run_step epoch ran = record { next = Running epoch ran.0; text = ran.1 }
 
 abbrev pub taken : Stage → Line → Step
 taken Unopened line = opened_by first_line (opening_line_read line)
-taken (BeingOpened header rows) line = opened_by (later_line header rows) (opening_line_read line)
+taken (BeingOpened header values) line = opened_by (later_line header values) (opening_line_read line)
 taken (Running epoch world) line =
-    run_step epoch (line_run (terms_of epoch.opening) epoch.trace world (event_line_read line))
+    run_step epoch (line_run (terms_of epoch.opening) (showing_of epoch) world (event_line_read line))
 taken Over line = silently Over
 
 abbrev pub step_of : Stage → Line → Step

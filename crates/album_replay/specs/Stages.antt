@@ -6,7 +6,8 @@ use Rattle.album_stamps.specs.declared.refusals.Refusal.TheVariants.{OutOfMemory
 use Rattle.album_world.specs.Past.{Past}
 use Rattle.album_lines.specs.Lines.{Line}
 use Rattle.album_replay.specs.Epochs.{running}
-use Rattle.album_replay.specs.Replay.{Stage, Unopened, BeingOpened, Over, Step, IsStep, Replays, StopsAmid, EndsAmid, begun, opening_of, refused, silently, end_text}
+use Rattle.album_replay.specs.Replay.{Stage, Unopened, BeingOpened, Over, Step, IsStep, Replays, StopsAmid, EndsAmid, begun, refused, silently, end_text}
+use Rattle.album_wire.specs.FirstValues.{opening_of}
 use Rattle.album_judge.specs.declared.fault.Fault.{Fault}
 use Rattle.album_judge.specs.declared.fault.Fault.TheVariants.{Reading, Writing, Memory}
 use Rattle.album_replay.specs.declared.openings.SoFar.{SoFar}
@@ -18,7 +19,7 @@ use Rattle.album_judge.specs.Writes.{IsCutShort}
 -- the stage of the engine
 abbrev pub stage_of : Kept → Past → Stage
 stage_of kept.Unopened past = Unopened
-stage_of (kept.BeingOpened header rows) past = BeingOpened header rows.items
+stage_of (kept.BeingOpened header values) past = BeingOpened header values
 stage_of (kept.Running epoch) past = running epoch past
 stage_of kept.Over past = Over
 
@@ -30,8 +31,8 @@ no_past = record { asked = []; transactions = []; begun = []; reads = []; answer
 
 -- what the lines have said so far, as a step
 abbrev pub step_to : SoFar → Step
-step_to (so_far.More header rows) = silently (BeingOpened header rows.items)
-step_to (so_far.Whole header rows) = begun (opening_of header rows.items) header.trace
+step_to (so_far.More header values) = silently (BeingOpened header values)
+step_to (so_far.Whole header values) = begun (opening_of header values) header.trace
 
 -- A step of the opening: its lines continue, or it is refused for the reason that the step says, or for memory.
 abbrev pub GoesOn : Step → Result SoFar Refusal → Type 0
@@ -51,7 +52,7 @@ step_by (Err refusal) = refused refusal
 -- the opening was refused
 abbrev pub is_over : Kept → Bool
 is_over kept.Unopened = false
-is_over (kept.BeingOpened header rows) = false
+is_over (kept.BeingOpened header values) = false
 is_over (kept.Running epoch) = false
 is_over kept.Over = true
 

@@ -22,4 +22,4 @@ pub use laws::{
     a_replay_runs_what_its_lines_spell, replays_are_computed, replays_go_on, what_replay_prints,
     worked_replays,
 };
-pub use openings::{SoFar, first_line, later_line, opening_of};
+pub use openings::{SoFar, first_line, later_line};

@@ -2,13 +2,12 @@
 ghost use Rattle.std.specs.Prelude.{◌≡◌};
 ghost use Rattle.album_stamps.specs.Outcome.{Gives};
 ghost use Rattle.album_lines.specs.Lines.{said};
-ghost use Rattle.album_replay.specs.Replay.{first_line, later_line, opened_by, opening_line_read, opening_of};
+ghost use Rattle.album_replay.specs.Replay.{first_line, later_line, opened_by, opening_line_read};
 ghost use Rattle.album_replay.specs.Stages.{GoesOn};
 
-use album_items::{ItemId, ItemValues, Opening, Value};
 use album_lines::LineIn;
 use album_stamps::Refusal;
-use album_wire::{Header, OpeningLine, read_opening_line};
+use album_wire::{FirstValues, Header, OpeningLine, read_opening_line};
 use json::Scratch;
 use std::alloc::Global;
 
@@ -16,9 +15,9 @@ use std::alloc::Global;
 #[derive(Drop)]
 pub enum SoFar {
     /// This header, and after it these items.
-    More(Header, Vec<(ItemId, Value)>),
+    More(Header, FirstValues),
     /// The same, and that these are all.
-    Whole(Header, Vec<(ItemId, Value)>),
+    Whole(Header, FirstValues),
 }
 
 /// The header comes first.
@@ -31,7 +30,7 @@ pub fn first_line(alloc: Global, scratch: &mut Scratch, line: &LineIn) -> Result
     ensures { GoesOn (opened_by first_line (opening_line_read (said line.now))) result }
 {
     match opening_line(alloc, scratch, line)? {
-        OpeningLine::Open(header) => Ok(SoFar::More(header, Vec::new(alloc))),
+        OpeningLine::Open(header) => Ok(SoFar::More(header, FirstValues::new(alloc))),
         OpeningLine::Item(..) | OpeningLine::Begin => Err(Refusal::BadRequest),
     }
 }
@@ -47,18 +46,18 @@ pub fn later_line(
     alloc: Global,
     scratch: &mut Scratch,
     header: Header,
-    mut rows: Vec<(ItemId, Value)>,
+    mut values: FirstValues,
     line: &LineIn,
 ) -> Result<SoFar, Refusal>
-    ensures { GoesOn (opened_by (later_line header rows.items) (opening_line_read (said line.now))) result }
+    ensures { GoesOn (opened_by (later_line header values) (opening_line_read (said line.now))) result }
 {
     match opening_line(alloc, scratch, line)? {
         OpeningLine::Open(_) => Err(Refusal::BadRequest),
-        OpeningLine::Item(item, value) => {
-            rows.push((item, value))?;
-            Ok(SoFar::More(header, rows))
+        OpeningLine::Item(item, stamp, value) => {
+            values.add(item, stamp, value)?;
+            Ok(SoFar::More(header, values))
         }
-        OpeningLine::Begin => Ok(SoFar::Whole(header, rows)),
+        OpeningLine::Begin => Ok(SoFar::Whole(header, values)),
     }
 }
 
@@ -67,18 +66,4 @@ fn opening_line(alloc: Global, scratch: &mut Scratch, line: &LineIn) -> Result<O
     ensures { Gives (λ line. line) result (opening_line_read (said line.now)) }
 {
     read_opening_line(alloc, scratch, line.bytes()?)
-}
-
-/// The opening that they have said.
-pub fn opening_of(header: Header, rows: Vec<(ItemId, Value)>) -> Opening
-    ensures { result ≡ opening_of header rows.items }
-{
-    Opening {
-        parts: header.parts,
-        limit: header.limit,
-        policy: header.policy,
-        checked: header.checked,
-        first: header.first,
-        items: ItemValues::of(rows),
-    }
 }

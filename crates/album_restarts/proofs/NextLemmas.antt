@@ -29,12 +29,12 @@ use Rattle.album_world.specs.State.{highest_counter}
 use Rattle.album_world.proofs.ListLemmas.{within}
 use Rattle.album_world.proofs.PromiseLemmas.{writes_are_granted}
 use Rattle.album_world.proofs.RunLemmas.{always_kept}
-use Rattle.album_epochs.specs.Carried.{carried_stamp, carried_value, AreNextRows}
+use Rattle.album_epochs.specs.Carried.{carried_stamp, carried_value, AreNextRows, AreNextStamps}
 use Rattle.album_epochs.proofs.BaseLemmas.{row_is}
 use Rattle.album_epochs.proofs.EpochLemmas.{there, at_carried}
-use Rattle.album_epochs.specs.Folding.{AreFolded}
+use Rattle.album_epochs.specs.Folding.{AreFolded, AreFoldedStamps}
 use Rattle.album_epochs.proofs.LeftLemmas.{sound_left}
-use Rattle.album_epochs.proofs.NextLemmas.{next_rows}
+use Rattle.album_epochs.proofs.NextLemmas.{next_rows, next_stamps}
 use Rattle.album_epochs.proofs.RowLemmas.{by_key}
 use Rattle.album_restarts.specs.Next.{IsNextOpening}
 use Rattle.album_restarts.specs.Worlds.{cut_of_world, histories_of}
@@ -83,6 +83,12 @@ rows_carried o n es is next =
     next_rows (cut_of_world o (run_of o es)) (sound_left (cut_of_world o (run_of o es)) (world_sound o es is)) o.items
     (histories_of (run_of o es).now.partitions) n.items refl refl next.rows
 
+pub stamps_carried : (o n : Opening) (es : List Event) → is_base_opening o ≡ true → IsNextOpening o (run_of o es).now n
+    → AreNextStamps (cut_of_world o (run_of o es)) o.stamps n.stamps
+stamps_carried o n es is next =
+    next_stamps (cut_of_world o (run_of o es)) (sound_left (cut_of_world o (run_of o es)) (world_sound o es is)) o.items
+    (histories_of (run_of o es).now.partitions) o.stamps n.stamps refl refl next.stamps
+
 pub row_granted : (o n : Opening) (es : List Event) (row : Row) → is_base_opening o ≡ true → IsNextOpening o (run_of o es).now n
     → Contains n.items row → (first_value o.items row.0 ≡ row.1) ⊎ IsWrote (run_of o es) row.0 row.1
 row_granted o n es row is next c =
@@ -102,12 +108,14 @@ stamp_below o n es by is next c =
 -- what `next_opening` makes is what the world leaves
 pub next_is : (o : Opening) (w : WorldState) (n : Opening) (highest : ℕ) → n.parts ≡ o.parts → n.limit ≡ o.limit → n.policy ≡ o.policy
     → n.checked ≡ o.checked → n.first ≡ max o.first highest → highest ≡ highest_counter w.kept.clients
-    → AreFolded o.items (histories_of w.kept.partitions) n.items → IsNextOpening o w.kept n
-next_is o w n highest parts limit policy checked first high rows = record {
+    → AreFolded o.items (histories_of w.kept.partitions) n.items
+    → AreFoldedStamps o.stamps o.items (histories_of w.kept.partitions) n.stamps → IsNextOpening o w.kept n
+next_is o w n highest parts limit policy checked first high rows stamps = record {
   parts = parts;
   limit = limit;
   policy = policy;
   checked = checked;
   first = first ∙ ap (max o.first) high;
   rows = rows;
+  stamps = stamps;
 }

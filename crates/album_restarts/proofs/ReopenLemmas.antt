@@ -15,7 +15,7 @@ use Rattle.album_world.specs.Runs.{run_of}
 use Rattle.album_world.specs.Seen.{WorldState, LeadsTo}
 use Rattle.album_world.proofs.ListLemmas.{some_same}
 use Rattle.album_world.proofs.RunLemmas.{opening_is}
-use Rattle.album_epochs.specs.Folding.{AreFolded, histories_lent}
+use Rattle.album_epochs.specs.Folding.{histories_lent}
 use Rattle.album_restarts.specs.Worlds.{histories_of}
 use Rattle.album_restarts.proofs.SoundLemmas.{parts_are}
 
@@ -64,13 +64,14 @@ fits o es w k lent l le e =
     let n : length lent ≡ o.parts = count_lent w.kept.partitions lent (all_lent w.kept.partitions k lent (omega (arith, parts, le)) e) ∙ parts in
     record { some = omega (arith, n, d.some); few = omega (arith, n, d.few) }
 
--- what the fold gives
-pub folded : (o : Opening) (w : WorldState) (k : ℕ) (first : List Row) (lent : List (Bor (List Mark))) (r : Result (List Row) Refusal)
+-- what the fold gives: of the first values and the histories
+pub folded : {X : Type 0} (Of : List Row → List (List Mark) → X → Type 0) (o : Opening) (w : WorldState) (k : ℕ)
+    (first : List Row) (lent : List (Bor (List Mark))) (r : Result X Refusal)
     → (es : List Event) × LeadsTo o es w → o.parts ≤ k → histories_lent lent ≡ take k (histories_of w.kept.partitions) → first ≡ o.items
-    → IfOk r (AreFolded first (histories_lent lent)) → IfOk r (AreFolded o.items (histories_of w.kept.partitions))
-folded o w k first lent (Err why) some le e is h = tt
-folded o w k first lent (Ok rows) some le e is h =
+    → IfOk r (Of first (histories_lent lent)) → IfOk r (Of o.items (histories_of w.kept.partitions))
+folded Of o w k first lent (Err why) some le e is h = tt
+folded Of o w k first lent (Ok given) some le e is h =
     let parts = kept_parts o some.0 w some.1 in
-    subst (λ (hs : List (List Mark)). AreFolded o.items hs rows)
+    subst (λ (hs : List (List Mark)). Of o.items hs given)
     (all_lent w.kept.partitions k lent (omega (arith, parts, le)) e)
-    (subst (λ (f : List Row). AreFolded f (histories_lent lent) rows) is h)
+    (subst (λ (f : List Row). Of f (histories_lent lent) given) is h)

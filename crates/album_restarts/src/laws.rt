@@ -10,7 +10,7 @@ ghost use Rattle.album_permits.specs.declared.events.Event.{Event as Happening};
 ghost use Rattle.album_world.specs.Past.{Read};
 ghost use Rattle.album_world.specs.Committing.{IsCommitted};
 ghost use Rattle.album_world.specs.Runs.{run_of};
-ghost use Rattle.album_epochs.specs.Carried.{AreNextRows, carried_stamp, is_carried};
+ghost use Rattle.album_epochs.specs.Carried.{AreNextRows, AreNextStamps, carried_stamp, is_carried};
 ghost use Rattle.album_restarts.specs.Next.{IsNextOpening};
 ghost use Rattle.album_restarts.specs.Worlds.{cut_of_world};
 
@@ -43,11 +43,14 @@ pub fn nothing_committed_is_lost_over_a_restart()
 {}
 
 /// A law: what a world leaves is what is carried: of each item the value at its greatest stamp that each participant
-/// has prepared.
+/// has prepared, with that stamp; what the world has left alone keeps the stamp that it was shown with.
 pub fn what_a_world_leaves_is_carried()
-    ensures { (opening next : Opening) (events : List Happening) → is_base_opening opening ≡ true
+    ensures rows { (opening next : Opening) (events : List Happening) → is_base_opening opening ≡ true
         → IsNextOpening opening (run_of opening events).now next
         → AreNextRows (cut_of_world opening (run_of opening events)) next.items }
+    ensures stamps { (opening next : Opening) (events : List Happening) → is_base_opening opening ≡ true
+        → IsNextOpening opening (run_of opening events).now next
+        → AreNextStamps (cut_of_world opening (run_of opening events)) opening.stamps next.stamps }
 {}
 
 /// A law: a next opening is a base, so that a world may open on it, and this holds again. Its counts are ones,

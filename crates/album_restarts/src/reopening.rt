@@ -3,19 +3,19 @@ ghost use Rattle.std.specs.Prelude.{◌≡◌, List, true, IfOk, IsOkUnless};
 ghost use Rattle.album_items.specs.Openings.{is_base_opening};
 ghost use Rattle.album_permits.specs.declared.events.Event.{Event as Happening};
 ghost use Rattle.album_world.specs.Seen.{LeadsTo};
-ghost use Rattle.album_epochs.specs.Folding.{AreFolded};
+ghost use Rattle.album_epochs.specs.Folding.{AreFolded, AreFoldedStamps};
 ghost use Rattle.album_restarts.specs.Next.{IsNextOpening};
 ghost use Rattle.album_restarts.specs.Worlds.{histories_of};
 
 use album_epochs::fold;
-use album_items::{ItemValues, Opening};
+use album_items::{FirstStamps, ItemValues, Opening};
 use album_stamps::Refusal;
 use album_world::World;
 use std::alloc::Global;
 
 /// The opening with which the next epoch begins, once all the world's clients and messages are lost. The world opened
-/// on this opening. The counts and the policy stay. Each clock begins above all of the world's clocks, and the rows are
-/// its histories, folded.
+/// on this opening. The counts and the policy stay. Each clock begins above all of the world's clocks, and the rows and
+/// their stamps are its histories, folded.
 ///
 /// # Errors
 ///
@@ -26,7 +26,7 @@ pub fn next_opening(alloc: Global, world: &World, opening: &Opening) -> Result<O
     ensures base { IfOk result (λ next. is_base_opening next ≡ true) }
     ensures memory { IsOkUnless result Refusal.OutOfMemory }
 {
-    let items = next_rows(alloc, world, opening)?;
+    let (items, stamps) = next_rows(alloc, world, opening)?;
     Ok(Opening {
         parts: opening.parts,
         limit: opening.limit,
@@ -34,6 +34,7 @@ pub fn next_opening(alloc: Global, world: &World, opening: &Opening) -> Result<O
         checked: opening.checked,
         first: opening.first.max(world.highest_counter()),
         items,
+        stamps,
     })
 }
 
@@ -42,9 +43,15 @@ pub fn next_opening(alloc: Global, world: &World, opening: &Opening) -> Result<O
 /// # Errors
 ///
 /// `OutOfMemory`.
-fn next_rows(alloc: Global, world: &World, opening: &Opening) -> Result<ItemValues, Refusal>
+fn next_rows(
+    alloc: Global,
+    world: &World,
+    opening: &Opening,
+) -> Result<(ItemValues, FirstStamps), Refusal>
     requires { (events : List Happening) × LeadsTo opening.now events world.now }
-    ensures folded { IfOk result (AreFolded opening.now.items (histories_of world.now.kept.partitions)) }
+    ensures folded { IfOk result (λ fold. AreFolded opening.now.items (histories_of world.now.kept.partitions) fold.0) }
+    ensures stamped { IfOk result (λ fold. AreFoldedStamps opening.now.stamps opening.now.items
+        (histories_of world.now.kept.partitions) fold.1) }
     ensures memory { IsOkUnless result Refusal.OutOfMemory }
 {
     let mut histories = Vec::new(alloc);
@@ -54,5 +61,5 @@ fn next_rows(alloc: Global, world: &World, opening: &Opening) -> Result<ItemValu
             None => {}
         }
     }
-    fold(alloc, opening.items.as_slice(), &histories)
+    fold(alloc, opening.items.as_slice(), &opening.stamps, &histories)
 }

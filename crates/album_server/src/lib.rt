@@ -12,7 +12,7 @@ pub use album_replay::{
     what_replay_prints, worked_replays,
 };
 pub use album_stamps::Refusal;
-pub use album_talk::{Admins, Journal, NoJournal, converse, converse_with, only_admins_are_heard};
+pub use album_talk::{Admins, Journal, NoJournal, converse, only_admins_are_heard, talk_on};
 
 // A port.
 pub use album_port::{
@@ -25,4 +25,4 @@ pub use album_items::{Opening, read_item};
 pub use album_permits::{Answer, Out};
 pub use album_threads::{OwnedSession, Service, ServiceNames, Session, Visit, with_service};
 pub use album_views::Ask;
-pub use album_wire::{write_answer, write_out};
+pub use album_wire::{write_answer, write_out, write_shown_answer, write_shown_out};

@@ -1,13 +1,12 @@
 -- Talks whose answers are recorded before they are written: they join, and so does what is written of one. For
--- `answer_lines`, `finish` and `converse_with`; `recorded_next` and `recorded_cut` are the ways on of a line.
+-- `answer_lines`, `finish` and `talk_on`; `recorded_next` and `recorded_cut` are the ways on of a line.
 use Rattle.std.proofs.Common.{◌≡◌, ◌≢◌, List, [], ◌∷◌, ◌++◌, Option, ℕ, Result, Ok, Err, OnOk, OnErr, refl, sym, ap, ◌∙◌, subst, append_assoc, append-nil}
 use Rattle.std.proofs.KnownBytes.{Appends-nil, Appends-trans}
 use Rattle.std.specs.Io.KnownBytes.{Appends}
 use Rattle.album_eval.specs.declared.policies.Policy.{Policy}
 use Rattle.album_sessions.specs.Sessions.{SessionState}
 use Rattle.album_lines.specs.Lines.{Line}
-use Rattle.album_talk.specs.declared.admins.Admins.{Admins}
-use Rattle.album_talk.specs.Talk.{Talker, TalksOnce, IsWrittenIf, IsRecordedTalk, IsRecordedPart}
+use Rattle.album_talk.specs.Talk.{Talker, TalksOnce, IsWrittenIf, IsRecordedTalk, IsRecordedPart, Rules}
 use Rattle.album_talk.specs.Talk.IsRecordedTalk.{Begins, Answers}
 use Rattle.album_judge.specs.Writes.{Writes}
 
@@ -16,12 +15,12 @@ pub by_outcome : {T E P Q X : Type 0} (r : Result T E) → (P → X) → (Q → 
 by_outcome (Ok t) f g p q = f p
 by_outcome (Err e) f g p q = g q
 
-module _ (limit : ℕ) (policy : Policy) (admins : Admins) (Recorded : SessionState → Type 0) where
+module _ (limit : ℕ) (policy : Policy) (rules : Rules) (Recorded : SessionState → Type 0) where
   abbrev Talk : Talker → Talker → List ℕ → Type 0
-  Talk old new text = IsRecordedTalk limit policy admins Recorded old new text
+  Talk old new text = IsRecordedTalk limit policy rules Recorded old new text
 
   abbrev Part : Talker → List ℕ → Type 0
-  Part old text = IsRecordedPart limit policy admins Recorded old text
+  Part old text = IsRecordedPart limit policy rules Recorded old text
 
   -- ---- of texts
 
@@ -36,7 +35,7 @@ module _ (limit : ℕ) (policy : Policy) (admins : Admins) (Recorded : SessionSt
 
   -- so much of one more answer
   one_part : (old between new : Talker) (line : Line) (x answer y : List ℕ) → Talk old between x
-      → TalksOnce limit policy admins between line new answer
+      → TalksOnce limit policy rules between line new answer
       → IsWrittenIf answer (Recorded new.session) y → Part old (x ++ y)
   one_part old between new line x answer [] g once h = ([], (between, subst (Talk old between) (sym all) g))
     where
@@ -57,13 +56,13 @@ module _ (limit : ℕ) (policy : Policy) (admins : Admins) (Recorded : SessionSt
   recorded_begins old a = ([], Begins, Appends-nil a)
 
   pub recorded_next : (old between new : Talker) (line : Line) (answer : List ℕ) (a b c : Option (List ℕ))
-      → Writes (Talk old between) a b → TalksOnce limit policy admins between line new answer
+      → Writes (Talk old between) a b → TalksOnce limit policy rules between line new answer
       → Appends b c answer → (answer ≢ [] → Recorded new.session) → Writes (Talk old new) a c
   recorded_next old between new line answer a b c g once more there =
       (g.0 ++ answer, Answers between new line g.0 answer g.1 once there, Appends-trans a b c g.0 answer g.2 more)
 
   pub recorded_cut : (old between new : Talker) (line : Line) (answer : List ℕ) (a b c : Option (List ℕ))
-      → Writes (Talk old between) a b → TalksOnce limit policy admins between line new answer
+      → Writes (Talk old between) a b → TalksOnce limit policy rules between line new answer
       → Writes (IsWrittenIf answer (Recorded new.session)) b c → Writes (Part old) a c
   recorded_cut old between new line answer a b c g once h =
       (g.0 ++ h.0, one_part old between new line g.0 answer h.0 g.1 once h.1, Appends-trans a b c g.0 h.0 g.2 h.2)

@@ -3,6 +3,7 @@ use Rattle.std.specs.Prelude.{◌≡◌, ◌≢◌, ◌⊎◌, ◌≤◌, ℕ, L
 use Rattle.album_stamps.specs.declared.refusals.Refusal.{Refusal}
 use Rattle.album_stamps.specs.Outcome.{◌>>=◌}
 use Rattle.album_stamps.specs.declared.refusals.Refusal.TheVariants.{OutOfMemory, BadLine, NoSuchPart, NotPrepared}
+use Rattle.album_items.specs.FirstStamps.{Stamps}
 use Rattle.album_terminate.specs.declared.deciding.StampState.TheVariants as state
 use Rattle.album_partition.specs.Marks.{ArePending, state_of, latest, floor}
 use Rattle.album_eval.specs.declared.facts.Principal.{Principal}
@@ -19,6 +20,7 @@ use Rattle.album_sessions.specs.Sessions.{SessionState, AddsNothing}
 use Rattle.album_lines.specs.Lines.{Line, is_blank}
 use Rattle.album_lines.specs.Output.{line_text, refusal_line}
 use Rattle.album_wire.specs.OutJson.{answer_json}
+use Rattle.album_wire.specs.ShownStamps.{answer_shown}
 use Rattle.album_wire.specs.TalkJson.{pending_json, talk_text}
 use Rattle.album_wire.specs.declared.talk_json.TalkOut.{TalkOut}
 use Rattle.album_wire.specs.declared.talk_json.TalkOut.TheVariants as says
@@ -28,6 +30,16 @@ use Rattle.album_wire.specs.declared.talk_line.TalkLine.TheVariants as line
 use Rattle.album_talk.specs.Admins.{permitted}
 use Rattle.album_talk.specs.declared.admins.Admins.{Admins}
 use Rattle.album_judge.specs.Writes.{IsPrefixOf}
+
+-- ---- by what it goes
+
+-- who may send more than asks, and the stamps that are shown of first values
+pub record Rules : Type 0 where
+  pub admins : Admins
+  pub stamps : Stamps
+
+abbrev pub rules_of : Admins → Stamps → Rules
+rules_of admins stamps = record { admins = admins; stamps = stamps }
 
 -- ---- what a session answers to a line
 
@@ -71,9 +83,9 @@ AnswersTrim limit part item old new (Err why) =
 
 -- ---- the text of an answer, or of a refusal
 
-abbrev pub asked_text : (client : ℕ) → Result Answer Refusal → List ℕ
-asked_text client (Ok answer) = line_text (answer_json client answer)
-asked_text client (Err why) = refusal_line why
+abbrev pub asked_text : Stamps → (client : ℕ) → Result Answer Refusal → List ℕ
+asked_text stamps client (Ok answer) = line_text (answer_json client (answer_shown stamps answer))
+asked_text stamps client (Err why) = refusal_line why
 
 abbrev pub pending_text : Result (List ℕ) Refusal → List ℕ
 pending_text (Ok stamps) = line_text (pending_json stamps)
@@ -85,11 +97,11 @@ done_text said (Err why) = refusal_line why
 
 -- ---- what a line is answered, by a session that is so before it and so after it
 
-abbrev pub IsAsked : ℕ → Policy → Principal → Ask → SessionState → SessionState → List ℕ → Type 0
-IsAsked limit policy who ask old new text =
+abbrev pub IsAsked : ℕ → Policy → Stamps → Principal → Ask → SessionState → SessionState → List ℕ → Type 0
+IsAsked limit policy stamps who ask old new text =
     (answer : Result Answer Refusal)
     × AnswersAsk limit policy who ask old new answer
-    × (text ≡ asked_text old.client answer)
+    × (text ≡ asked_text stamps old.client answer)
 
 -- for an ask alone something is noted, drawn or announced
 abbrev pub IsPendingAnswered : ℕ → SessionState → SessionState → List ℕ → Type 0
@@ -113,11 +125,11 @@ IsTrimmedFor limit part item old new text =
     × (text ≡ done_text says.Trimmed answer)
     × AddsNothing old new
 
-abbrev pub AnswersTalk : ℕ → Policy → Principal → TalkLine → SessionState → SessionState → List ℕ → Type 0
-AnswersTalk limit policy who (line.Ask ask) old new text = IsAsked limit policy who ask old new text
-AnswersTalk limit policy who (line.Pending part) old new text = IsPendingAnswered part old new text
-AnswersTalk limit policy who (line.Sweep part stamp) old new text = IsSweptFor part stamp old new text
-AnswersTalk limit policy who (line.Trim part item) old new text = IsTrimmedFor limit part item old new text
+abbrev pub AnswersTalk : ℕ → Policy → Stamps → Principal → TalkLine → SessionState → SessionState → List ℕ → Type 0
+AnswersTalk limit policy stamps who (line.Ask ask) old new text = IsAsked limit policy stamps who ask old new text
+AnswersTalk limit policy stamps who (line.Pending part) old new text = IsPendingAnswered part old new text
+AnswersTalk limit policy stamps who (line.Sweep part stamp) old new text = IsSweptFor part stamp old new text
+AnswersTalk limit policy stamps who (line.Trim part item) old new text = IsTrimmedFor limit part item old new text
 
 -- ---- a line
 
@@ -150,48 +162,48 @@ Greets old (Ok who) new text =
 Greets old (Err why) new text = (new ≡ old) × (text ≡ refusal_line why)
 
 -- a later line is answered, and the session has seen more
-pub record IsAnswered (limit : ℕ) (policy : Policy) (who : Principal) (said : TalkLine) (old new : Talker)
+pub record IsAnswered (limit : ℕ) (policy : Policy) (stamps : Stamps) (who : Principal) (said : TalkLine) (old new : Talker)
     (text : List ℕ) : Type 0 where
   pub named : new.who ≡ Some who
   pub on : IsOn old.session new.session
-  pub answers : AnswersTalk limit policy who said old.session new.session text
+  pub answers : AnswersTalk limit policy stamps who said old.session new.session text
 
-abbrev pub AnswersLater : ℕ → Policy → Principal → Talker → Result TalkLine Refusal → Talker → List ℕ → Type 0
-AnswersLater limit policy who old (Ok said) new text = IsAnswered limit policy who said old new text
-AnswersLater limit policy who old (Err why) new text = (new ≡ old) × (text ≡ refusal_line why)
+abbrev pub AnswersLater : ℕ → Policy → Stamps → Principal → Talker → Result TalkLine Refusal → Talker → List ℕ → Type 0
+AnswersLater limit policy stamps who old (Ok said) new text = IsAnswered limit policy stamps who said old new text
+AnswersLater limit policy stamps who old (Err why) new text = (new ≡ old) × (text ≡ refusal_line why)
 
 -- until it is said who talks, a line that doesn't say so is refused
-abbrev pub Hears : ℕ → Policy → Admins → Option Principal → Talker → Line → Talker → List ℕ → Type 0
-Hears limit policy admins None old line new text = Greets old (hello_line_read line) new text
-Hears limit policy admins (Some who) old line new text =
-    AnswersLater limit policy who old (talk_line_heard admins who line) new text
+abbrev pub Hears : ℕ → Policy → Rules → Option Principal → Talker → Line → Talker → List ℕ → Type 0
+Hears limit policy rules None old line new text = Greets old (hello_line_read line) new text
+Hears limit policy rules (Some who) old line new text =
+    AnswersLater limit policy rules.stamps who old (talk_line_heard rules.admins who line) new text
 
 -- A blank line is skipped. On another memory may run out; then that is answered, and nothing has happened.
-abbrev pub TalksOnce : ℕ → Policy → Admins → Talker → Line → Talker → List ℕ → Type 0
-TalksOnce limit policy admins old line new text =
+abbrev pub TalksOnce : ℕ → Policy → Rules → Talker → Line → Talker → List ℕ → Type 0
+TalksOnce limit policy rules old line new text =
     MatchBool (is_blank line) ((new ≡ old) × (text ≡ []))
-    (Hears limit policy admins old.who old line new text ⊎ ((new ≡ old) × (text ≡ refusal_line OutOfMemory)))
+    (Hears limit policy rules old.who old line new text ⊎ ((new ≡ old) × (text ≡ refusal_line OutOfMemory)))
 
 -- ---- the whole talk
 
 -- the lines are answered one after another, and this is written
-abbrev pub Talks : ℕ → Policy → Admins → Talker → List Line → Talker → List ℕ → Type 0
-Talks limit policy admins old [] new text = (new ≡ old) × (text ≡ [])
-Talks limit policy admins old (line ∷ lines) new text =
+abbrev pub Talks : ℕ → Policy → Rules → Talker → List Line → Talker → List ℕ → Type 0
+Talks limit policy rules old [] new text = (new ≡ old) × (text ≡ [])
+Talks limit policy rules old (line ∷ lines) new text =
     (between : Talker) × (first : List ℕ) × (others : List ℕ)
-    × TalksOnce limit policy admins old line between first
-    × Talks limit policy admins between lines new others
+    × TalksOnce limit policy rules old line between first
+    × Talks limit policy rules between lines new others
     × (text ≡ first ++ others)
 
 -- what may be written of the lines, by talks in which the session saw no more than this one has seen
-abbrev pub MayTalk : ℕ → Policy → Admins → SessionState → Talker → List Line → List ℕ → Type 0
-MayTalk limit policy admins bound old lines text =
-    (new : Talker) × Talks limit policy admins old lines new text × IsOn new.session bound
+abbrev pub MayTalk : ℕ → Policy → Rules → SessionState → Talker → List Line → List ℕ → Type 0
+MayTalk limit policy rules bound old lines text =
+    (new : Talker) × Talks limit policy rules old lines new text × IsOn new.session bound
 
 -- the talk of these lines, in a session that is so before it and so after it
-abbrev pub IsTalk : ℕ → Policy → Admins → SessionState → SessionState → List Line → List ℕ → Type 0
-IsTalk limit policy admins old new lines text =
-    (who : Option Principal) × Talks limit policy admins (stranger old) lines (record { who = who; session = new }) text
+abbrev pub IsTalk : ℕ → Policy → Rules → SessionState → SessionState → List Line → List ℕ → Type 0
+IsTalk limit policy rules old new lines text =
+    (who : Option Principal) × Talks limit policy rules (stranger old) lines (record { who = who; session = new }) text
 
 -- ---- what is recorded before it is answered
 
@@ -202,17 +214,17 @@ IsWrittenIf whole Holds text = IsPrefixOf (λ all. all ≡ whole) text × (text 
 -- A talk of some lines, from the first of these talkers to the other, and its text. For each answer that has a byte,
 -- what the session had noted by then is recorded.
 pub data IsRecordedTalk
-    (limit : ℕ) (policy : Policy) (admins : Admins) (Recorded : SessionState → Type 0) (old : Talker)
+    (limit : ℕ) (policy : Policy) (rules : Rules) (Recorded : SessionState → Type 0) (old : Talker)
     : Talker → List ℕ → Type 0 where
-  Begins : IsRecordedTalk limit policy admins Recorded old old []
+  Begins : IsRecordedTalk limit policy rules Recorded old old []
   Answers :
       (between new : Talker) (line : Line) (text answer : List ℕ)
-      → IsRecordedTalk limit policy admins Recorded old between text
-      → TalksOnce limit policy admins between line new answer
+      → IsRecordedTalk limit policy rules Recorded old between text
+      → TalksOnce limit policy rules between line new answer
       → (answer ≢ [] → Recorded new.session)
-      → IsRecordedTalk limit policy admins Recorded old new (text ++ answer)
+      → IsRecordedTalk limit policy rules Recorded old new (text ++ answer)
 
 -- a prefix of the text of a recorded talk
-abbrev pub IsRecordedPart : ℕ → Policy → Admins → (SessionState → Type 0) → Talker → List ℕ → Type 0
-IsRecordedPart limit policy admins Recorded old text =
-    IsPrefixOf (λ all. (new : Talker) × IsRecordedTalk limit policy admins Recorded old new all) text
+abbrev pub IsRecordedPart : ℕ → Policy → Rules → (SessionState → Type 0) → Talker → List ℕ → Type 0
+IsRecordedPart limit policy rules Recorded old text =
+    IsPrefixOf (λ all. (new : Talker) × IsRecordedTalk limit policy rules Recorded old new all) text

@@ -5,17 +5,17 @@ ghost use Rattle.album_stamps.specs.Outcome.{Gives};
 ghost use Rattle.album_sessions.specs.Asks.{IsOn};
 ghost use Rattle.album_lines.specs.Lines.{said};
 ghost use Rattle.album_lines.specs.Output.{refusal_line};
-ghost use Rattle.album_talk.specs.Talk.{AnswersAsk, AnswersTalk, AnswersLater, Greets, IsAsked, IsPendingAnswered, IsSweptFor, IsTrimmedFor, TalksOnce, hello_line_read, talk_line_heard};
+ghost use Rattle.album_talk.specs.Talk.{rules_of, AnswersAsk, AnswersTalk, AnswersLater, Greets, IsAsked, IsPendingAnswered, IsSweptFor, IsTrimmedFor, TalksOnce, hello_line_read, talk_line_heard};
 
 use crate::admins::Admins;
 use album_eval::Principal;
-use album_items::ItemId;
+use album_items::{FirstStamps, ItemId};
 use album_lines::{LineIn, write_refusal};
 use album_permits::Answer;
 use album_sessions::{ServiceNames, Session};
 use album_stamps::{Refusal, Stamp};
 use album_views::Ask;
-use album_wire::{TalkLine, TalkOut, read_hello, read_talk, write_answer, write_talk};
+use album_wire::{TalkLine, TalkOut, read_hello, read_talk, write_shown_answer, write_talk};
 use json::Scratch;
 use std::alloc::Global;
 use std::sync::Wait;
@@ -32,10 +32,11 @@ pub(crate) fn answer<J: ServiceNames, T: Wait + time::Clock>(
     scratch: &mut Scratch,
     session: &mut Session<J>,
     admins: &Admins,
+    stamps: &FirstStamps,
     who: &mut Option<Principal>,
     line: &LineIn,
 ) -> Result<Vec<u8>, Refusal>
-    ensures answered { IfOk result (λ text. TalksOnce J.terms.limit J.policy admins.now
+    ensures answered { IfOk result (λ text. TalksOnce J.terms.limit J.policy (rules_of admins.now stamps.now)
         (record { who = who.old; session = session.old }) (said line.now)
         (record { who = who.new; session = session.new }) text.items) }
     ensures on { IsOn session.old session.new }
@@ -47,7 +48,9 @@ pub(crate) fn answer<J: ServiceNames, T: Wait + time::Clock>(
     }
     match &*who {
         None => greet(alloc, scratch, session, who, line),
-        Some(principal) => answer_later(rt, alloc, scratch, session, admins, principal, line),
+        Some(principal) => {
+            answer_later(rt, alloc, scratch, session, admins, stamps, principal, line)
+        }
     }
 }
 
@@ -86,10 +89,11 @@ fn answer_later<J: ServiceNames, T: Wait + time::Clock>(
     scratch: &mut Scratch,
     session: &mut Session<J>,
     admins: &Admins,
+    stamps: &FirstStamps,
     principal: &Principal,
     line: &LineIn,
 ) -> Result<Vec<u8>, Refusal>
-    ensures answered { IfOk result (λ text. AnswersLater J.terms.limit J.policy principal.now
+    ensures answered { IfOk result (λ text. AnswersLater J.terms.limit J.policy stamps.now principal.now
         (record { who = Some principal.now; session = session.old })
         (talk_line_heard admins.now principal.now (said line.now))
         (record { who = Some principal.now; session = session.new }) text.items
@@ -99,7 +103,7 @@ fn answer_later<J: ServiceNames, T: Wait + time::Clock>(
     // For contracts alone.
     session.has_granted_writes();
     match talk_line(alloc, scratch, admins, principal, line) {
-        Ok(line) => carry_out(rt, alloc, session, principal, line),
+        Ok(line) => carry_out(rt, alloc, session, stamps, principal, line),
         Err(refusal) => write_refusal(alloc, refusal),
     }
 }
@@ -123,15 +127,16 @@ fn carry_out<J: ServiceNames, T: Wait + time::Clock>(
     rt: &T,
     alloc: Global,
     session: &mut Session<J>,
+    stamps: &FirstStamps,
     principal: &Principal,
     line: TalkLine,
 ) -> Result<Vec<u8>, Refusal>
     ensures answers { IfOk result (λ text.
-        AnswersTalk J.terms.limit J.policy principal.now line session.old session.new text.items) }
+        AnswersTalk J.terms.limit J.policy stamps.now principal.now line session.old session.new text.items) }
     ensures on { IsOn session.old session.new }
 {
     match line {
-        TalkLine::Ask(ask) => carry_out_ask(rt, alloc, session, principal, ask),
+        TalkLine::Ask(ask) => carry_out_ask(rt, alloc, session, stamps, principal, ask),
         TalkLine::Pending(part) => pending(rt, alloc, session, part),
         TalkLine::Sweep(part, stamp) => sweep(rt, alloc, session, part, stamp),
         TalkLine::Trim(part, item) => trim(rt, alloc, session, part, item),
@@ -142,15 +147,16 @@ fn carry_out_ask<J: ServiceNames, T: Wait + time::Clock>(
     rt: &T,
     alloc: Global,
     session: &mut Session<J>,
+    stamps: &FirstStamps,
     principal: &Principal,
     ask: Ask,
 ) -> Result<Vec<u8>, Refusal>
     ensures answers { IfOk result (λ text.
-        IsAsked J.terms.limit J.policy principal.now ask session.old session.new text.items) }
+        IsAsked J.terms.limit J.policy stamps.now principal.now ask session.old session.new text.items) }
     ensures on { IsOn session.old session.new }
 {
     match asked(rt, session, principal, ask) {
-        Ok(answer) => write_answer(alloc, session.client(), &answer),
+        Ok(answer) => write_shown_answer(alloc, stamps, session.client(), &answer),
         Err(refusal) => write_refusal(alloc, refusal),
     }
 }

@@ -22,4 +22,4 @@ mod talk;
 
 pub use admins::{Admins, only_admins_are_heard};
 pub use journal::{Journal, NoJournal};
-pub use talk::{converse, converse_with, talk_on};
+pub use talk::{converse, talk_on};

@@ -4,13 +4,14 @@ ghost use Rattle.std.specs.Prelude.{◌≡◌, ◌≢◌, [], map, Err, OnOk, On
 ghost use Rattle.std.specs.Io.KnownBytes.{Appends, IsAtEnd};
 ghost use Rattle.album_sessions.specs.Asks.{IsOn};
 ghost use Rattle.album_lines.specs.Lines.{lines_of, last, said};
-ghost use Rattle.album_talk.specs.Talk.{IsTalk, MayTalk, Talks, stranger, IsRecordedTalk, IsRecordedPart, IsWrittenIf};
+ghost use Rattle.album_talk.specs.Talk.{rules_of, IsTalk, MayTalk, Talks, stranger, IsRecordedTalk, IsRecordedPart, IsWrittenIf};
 ghost use Rattle.album_judge.specs.Writes.{HasRead, Writes, Exchanges, IsPrefixOf, IsCutShort, IsLeftBy, IsEndedBy};
 
 use crate::admins::Admins;
 use crate::answers::answer;
 use crate::journal::{Journal, NoJournal};
 use album_eval::Principal;
+use album_items::FirstStamps;
 use album_judge::{Fault, PIECE, write_text};
 use album_lines::{LineIn, Lines};
 use album_sessions::{ServiceNames, Session};
@@ -38,7 +39,7 @@ pub fn converse<J: ServiceNames, T: Wait + time::Clock, R: Read, W: Write>(
     // Without a fault the whole input was read, and exactly the lines' talk is written, from the session's old state to
     // its new one.
     ensures ok { OnOk result (IfSome (R.remaining reader.old) (λ input.
-        Writes (IsTalk J.terms.limit J.policy Admins.Anyone session.old session.new (lines_of input))
+        Writes (IsTalk J.terms.limit J.policy (rules_of Admins.Anyone []) session.old session.new (lines_of input))
         (W.contents writer.old) (W.contents writer.new))) }
     ensures whole { OnOk result (IsAtEnd (R.remaining reader.new)) }
 
@@ -46,13 +47,15 @@ pub fn converse<J: ServiceNames, T: Wait + time::Clock, R: Read, W: Write>(
     // the end.
     ensures err { OnErr result (IfSome (R.remaining reader.old) (λ input.
         Writes (IsPrefixOf
-        (MayTalk J.terms.limit J.policy Admins.Anyone session.new (stranger session.old) (lines_of input)))
+        (MayTalk J.terms.limit J.policy (rules_of Admins.Anyone []) session.new
+        (stranger session.old) (lines_of input)))
         (W.contents writer.old) (W.contents writer.new))) }
 
     // What is written then answers what was read. Reading: each line that has ended, and nothing else.
     // Writing: an answer is cut short. Memory: each answer is whole, and one is not there.
     ensures fault { IfErr result (λ fault.
-        Exchanges (IsEndedBy fault (MayTalk J.terms.limit J.policy Admins.Anyone session.new (stranger session.old)))
+        Exchanges (IsEndedBy fault (MayTalk J.terms.limit J.policy (rules_of Admins.Anyone []) session.new
+        (stranger session.old)))
         (R.remaining reader.old) (R.remaining reader.new) (W.contents writer.old) (W.contents writer.new)) }
 
     // The session has only seen more.
@@ -65,79 +68,27 @@ pub fn converse<J: ServiceNames, T: Wait + time::Clock, R: Read, W: Write>(
     ensures none { turns ≡ 0 → result ≡ Err Fault.Reading }
     ensures unread { turns ≡ 0 → R.remaining reader.new ≡ R.remaining reader.old }
 {
-    converse_with(
+    talk_on(
         rt,
         alloc,
         reader,
         writer,
         session,
         &Admins::Anyone,
+        &FirstStamps::new(alloc),
         &NoJournal,
+        &mut None,
         turns,
     )
 }
 
-/// The same, where who talks may only ask, unless it is one of the admins. The journal is settled before each answer:
-/// what was noted is recorded by then, and where it can't be, no byte of the answer is written.
+/// The same, where who talks may only ask, unless it is one of the admins; first values are shown with these stamps. It
+/// may be said already who talks: so a talk goes on in another session, with another reader. The journal is settled
+/// before each answer: what was noted is recorded by then, and where it can't be, no byte of the answer is written.
 ///
 /// # Errors
 ///
 /// As `converse`; also `Writing`, where the journal can't be settled.
-pub fn converse_with<J: ServiceNames, T: Wait + time::Clock, R: Read, W: Write, A: Journal>(
-    rt: &T,
-    alloc: Global,
-    reader: &mut R,
-    writer: &mut W,
-    session: &mut Session<J>,
-    admins: &Admins,
-    journal: &A,
-    turns: u64,
-) -> Result<(), Fault>
-    // Without a fault the whole input was read, and exactly the lines' talk is written, from the session's old state to
-    // its new one.
-    ensures ok { OnOk result (IfSome (R.remaining reader.old) (λ input.
-        Writes (IsTalk J.terms.limit J.policy admins.now session.old session.new (lines_of input))
-        (W.contents writer.old) (W.contents writer.new))) }
-    ensures whole { OnOk result (IsAtEnd (R.remaining reader.new)) }
-
-    // On a fault, a prefix of a talk of the lines is written. In that talk the session has seen no more than it has at
-    // the end.
-    ensures err { OnErr result (IfSome (R.remaining reader.old) (λ input.
-        Writes (IsPrefixOf
-        (MayTalk J.terms.limit J.policy admins.now session.new (stranger session.old) (lines_of input)))
-        (W.contents writer.old) (W.contents writer.new))) }
-
-    // What is written then answers what was read. Reading: each line that has ended, and nothing else.
-    // Writing: an answer is cut short. Memory: each answer is whole, and one is not there.
-    ensures fault { IfErr result (λ fault.
-        Exchanges (IsEndedBy fault (MayTalk J.terms.limit J.policy admins.now session.new (stranger session.old)))
-        (R.remaining reader.old) (R.remaining reader.new) (W.contents writer.old) (W.contents writer.new)) }
-
-    // What was noted for an answer is recorded before any byte of it is written, whether there is a fault or not.
-    ensures recorded { Writes (IsRecordedPart J.terms.limit J.policy admins.now (A.recorded journal.now)
-        (stranger session.old)) (W.contents writer.old) (W.contents writer.new) }
-
-    // The session has only seen more.
-    ensures on { IsOn session.old session.new }
-
-    // A turn reads one piece at most.
-    ensures few { HasRead turns (R.remaining reader.old) (R.remaining reader.new) }
-
-    // No turn, no read.
-    ensures none { turns ≡ 0 → result ≡ Err Fault.Reading }
-    ensures unread { turns ≡ 0 → R.remaining reader.new ≡ R.remaining reader.old }
-{
-    let mut who = None;
-    talk_on(
-        rt, alloc, reader, writer, session, admins, journal, &mut who, turns,
-    )
-}
-
-/// The same, where it may be said already who talks: so a talk goes on in another session, with another reader.
-///
-/// # Errors
-///
-/// As `converse_with`.
 pub fn talk_on<J: ServiceNames, T: Wait + time::Clock, R: Read, W: Write, A: Journal>(
     rt: &T,
     alloc: Global,
@@ -145,40 +96,42 @@ pub fn talk_on<J: ServiceNames, T: Wait + time::Clock, R: Read, W: Write, A: Jou
     writer: &mut W,
     session: &mut Session<J>,
     admins: &Admins,
+    stamps: &FirstStamps,
     journal: &A,
     who: &mut Option<Principal>,
     turns: u64,
 ) -> Result<(), Fault>
     // Without a fault the whole input was read, and exactly the lines' talk is written, from the old talker to the new.
     ensures ok { OnOk result (IfSome (R.remaining reader.old) (λ input.
-        Writes (Talks J.terms.limit J.policy admins.now (record { who = who.old; session = session.old })
-        (lines_of input) (record { who = who.new; session = session.new }))
+        Writes (Talks J.terms.limit J.policy (rules_of admins.now stamps.now)
+        (record { who = who.old; session = session.old }) (lines_of input) (record { who = who.new; session = session.new }))
         (W.contents writer.old) (W.contents writer.new))) }
     ensures whole { OnOk result (IsAtEnd (R.remaining reader.new)) }
 
     // On a fault, a prefix of a talk of the lines is written. In that talk the session has seen no more than it has at
     // the end.
     ensures err { OnErr result (IfSome (R.remaining reader.old) (λ input.
-        Writes (IsPrefixOf (MayTalk J.terms.limit J.policy admins.now session.new
+        Writes (IsPrefixOf (MayTalk J.terms.limit J.policy (rules_of admins.now stamps.now) session.new
         (record { who = who.old; session = session.old }) (lines_of input)))
         (W.contents writer.old) (W.contents writer.new))) }
 
-    // What is written then answers what was read, as in `converse_with`.
+    // What is written then answers what was read, as in `converse`.
     ensures fault { IfErr result (λ fault.
-        Exchanges (IsEndedBy fault (MayTalk J.terms.limit J.policy admins.now session.new
+        Exchanges (IsEndedBy fault (MayTalk J.terms.limit J.policy (rules_of admins.now stamps.now) session.new
         (record { who = who.old; session = session.old })))
         (R.remaining reader.old) (R.remaining reader.new) (W.contents writer.old) (W.contents writer.new)) }
 
     // Where a read failed, the talk of the lines that have ended has come to the new talker: another may go on from it.
     ensures left { result ≡ Err Fault.Reading →
         Exchanges (IsEndedBy Fault.Reading (λ lines text.
-        Talks J.terms.limit J.policy admins.now (record { who = who.old; session = session.old }) lines
+        Talks J.terms.limit J.policy (rules_of admins.now stamps.now)
+        (record { who = who.old; session = session.old }) lines
         (record { who = who.new; session = session.new }) text))
         (R.remaining reader.old) (R.remaining reader.new) (W.contents writer.old) (W.contents writer.new) }
 
     // What was noted for an answer is recorded before any byte of it is written, whether there is a fault or not.
-    ensures recorded { Writes (IsRecordedPart J.terms.limit J.policy admins.now (A.recorded journal.now)
-        (record { who = who.old; session = session.old })) (W.contents writer.old) (W.contents writer.new) }
+    ensures recorded { Writes (IsRecordedPart J.terms.limit J.policy (rules_of admins.now stamps.now)
+        (A.recorded journal.now) (record { who = who.old; session = session.old })) (W.contents writer.old) (W.contents writer.new) }
 
     // The session has only seen more.
     ensures on { IsOn session.old session.new }
@@ -205,6 +158,7 @@ pub fn talk_on<J: ServiceNames, T: Wait + time::Clock, R: Read, W: Write, A: Jou
                 &mut scratch,
                 session,
                 admins,
+                stamps,
                 journal,
                 who,
                 lines,
@@ -218,6 +172,7 @@ pub fn talk_on<J: ServiceNames, T: Wait + time::Clock, R: Read, W: Write, A: Jou
             &mut scratch,
             session,
             admins,
+            stamps,
             journal,
             who,
             &ended,
@@ -234,24 +189,27 @@ fn finish<J: ServiceNames, T: Wait + time::Clock, W: Write, A: Journal>(
     scratch: &mut Scratch,
     session: &mut Session<J>,
     admins: &Admins,
+    stamps: &FirstStamps,
     journal: &A,
     who: &mut Option<Principal>,
     lines: Lines,
     writer: &mut W,
 ) -> Result<(), Fault>
-    ensures ok { OnOk result (Writes (Talks J.terms.limit J.policy admins.now
+    ensures ok { OnOk result (Writes (Talks J.terms.limit J.policy (rules_of admins.now stamps.now)
         (record { who = who.old; session = session.old })
         (last lines) (record { who = who.new; session = session.new }))
         (W.contents writer.old) (W.contents writer.new)) }
     ensures fault { IfErr result (λ fault. Writes
-        (IsLeftBy fault (MayTalk J.terms.limit J.policy admins.now session.new
+        (IsLeftBy fault (MayTalk J.terms.limit J.policy (rules_of admins.now stamps.now) session.new
         (record { who = who.old; session = session.old }))
         (last lines))
         (W.contents writer.old) (W.contents writer.new)) }
-    ensures recorded { OnOk result (Writes (IsRecordedTalk J.terms.limit J.policy admins.now (A.recorded journal.now)
+    ensures recorded { OnOk result (Writes (IsRecordedTalk J.terms.limit J.policy
+        (rules_of admins.now stamps.now) (A.recorded journal.now)
         (record { who = who.old; session = session.old }) (record { who = who.new; session = session.new }))
         (W.contents writer.old) (W.contents writer.new)) }
-    ensures part { OnErr result (Writes (IsRecordedPart J.terms.limit J.policy admins.now (A.recorded journal.now)
+    ensures part { OnErr result (Writes (IsRecordedPart J.terms.limit J.policy
+        (rules_of admins.now stamps.now) (A.recorded journal.now)
         (record { who = who.old; session = session.old }))
         (W.contents writer.old) (W.contents writer.new)) }
     ensures on { IsOn session.old session.new }
@@ -265,6 +223,7 @@ fn finish<J: ServiceNames, T: Wait + time::Clock, W: Write, A: Journal>(
             scratch,
             session,
             admins,
+            stamps,
             journal,
             who,
             &[line],
@@ -280,30 +239,33 @@ fn answer_lines<J: ServiceNames, T: Wait + time::Clock, W: Write, A: Journal>(
     scratch: &mut Scratch,
     session: &mut Session<J>,
     admins: &Admins,
+    stamps: &FirstStamps,
     journal: &A,
     who: &mut Option<Principal>,
     lines: &[LineIn],
     writer: &mut W,
 ) -> Result<(), Fault>
-    ensures ok { OnOk result (Writes (Talks J.terms.limit J.policy admins.now
+    ensures ok { OnOk result (Writes (Talks J.terms.limit J.policy (rules_of admins.now stamps.now)
         (record { who = who.old; session = session.old })
         (map said lines.now) (record { who = who.new; session = session.new }))
         (W.contents writer.old) (W.contents writer.new)) }
     ensures fault { IfErr result (λ fault. Writes
-        (IsLeftBy fault (MayTalk J.terms.limit J.policy admins.now session.new
+        (IsLeftBy fault (MayTalk J.terms.limit J.policy (rules_of admins.now stamps.now) session.new
         (record { who = who.old; session = session.old }))
         (map said lines.now)) (W.contents writer.old) (W.contents writer.new)) }
-    ensures recorded { OnOk result (Writes (IsRecordedTalk J.terms.limit J.policy admins.now (A.recorded journal.now)
+    ensures recorded { OnOk result (Writes (IsRecordedTalk J.terms.limit J.policy
+        (rules_of admins.now stamps.now) (A.recorded journal.now)
         (record { who = who.old; session = session.old }) (record { who = who.new; session = session.new }))
         (W.contents writer.old) (W.contents writer.new)) }
-    ensures part { OnErr result (Writes (IsRecordedPart J.terms.limit J.policy admins.now (A.recorded journal.now)
+    ensures part { OnErr result (Writes (IsRecordedPart J.terms.limit J.policy
+        (rules_of admins.now stamps.now) (A.recorded journal.now)
         (record { who = who.old; session = session.old }))
         (W.contents writer.old) (W.contents writer.new)) }
     ensures on { IsOn session.old session.new }
 {
     session.has_granted_writes();
     for line in lines {
-        let text = answer(rt, alloc, scratch, session, admins, who, line)?;
+        let text = answer(rt, alloc, scratch, session, admins, stamps, who, line)?;
         write_settled(rt, journal, session, who.as_ref(), writer, &text)?;
     }
     Ok(())

@@ -25,8 +25,11 @@ pub fn what_is_served_has_its_stamp()
     ensures listed { (permit : PermitState) (album stamp read : ℕ) (is : Value) (rows : List Row)
         → IsServed permit (served.Listed album stamp rows)
         → version_read permit.view.rows album ≡ Some (read, is) → stamp ≡ read }
-    ensures entries { (permit : PermitState) (object stamp read : ℕ) (is : Value) (head : Head) (entries : List Ace)
-        → IsServed permit (served.Entries object stamp entries)
+    ensures entries { (permit : PermitState) (object of stamp read : ℕ) (is : Value) (head : Head) (entries : List Ace)
+        → IsServed permit (served.Entries object of stamp entries)
         → head_of (seen permit.view.rows object) ≡ Some head
         → version_read permit.view.rows (list head.list) ≡ Some (read, is) → stamp ≡ read }
+    ensures entries_of { (permit : PermitState) (object of stamp : ℕ) (head : Head) (entries : List Ace)
+        → IsServed permit (served.Entries object of stamp entries)
+        → head_of (seen permit.view.rows object) ≡ Some head → of ≡ list head.list }
 {}

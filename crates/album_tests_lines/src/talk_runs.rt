@@ -5,10 +5,10 @@ ghost use Rattle.album_threads.specs.Opened.{opened_as};
 
 use crate::runs::{Engine, Script, assert_kept};
 use crate::streams::{Counted, Pieces, Taking, Waiting};
-use album_items::{ItemValues, Opening};
+use album_items::{FirstStamps, ItemValues, Opening};
 use album_judge::Fault;
 use album_stamps::Refusal;
-use album_talk::{Admins, NoJournal, converse_with};
+use album_talk::converse;
 use album_threads::{Open, Opened, Service, ServiceNames, Session};
 use std::alloc::Global;
 use std::marker::Brand;
@@ -31,16 +31,7 @@ impl<J: ServiceNames, R: Wait + time::Clock + Copy> Engine for Talking<J, R> {
         writer: &mut Taking,
         turns: u64,
     ) -> Result<(), Fault> {
-        converse_with(
-            &self.rt,
-            alloc,
-            reader,
-            writer,
-            &mut self.session,
-            &Admins::Anyone,
-            &NoJournal,
-            turns,
-        )
+        converse(&self.rt, alloc, reader, writer, &mut self.session, turns)
     }
 }
 
@@ -67,6 +58,7 @@ fn opened(alloc: Global) -> Result<Opened, Refusal> {
         checked: false,
         first: 0,
         items: ItemValues::of(Vec::new(alloc)),
+        stamps: FirstStamps::new(alloc),
     };
     Opened::new(alloc, &opening, 1)
 }
@@ -94,17 +86,7 @@ fn waited_for<J: ServiceNames, R: Wait + time::Clock>(
         given: 0,
         answered,
     };
-    let (admins, journal) = (Admins::Anyone, NoJournal);
-    let done = converse_with(
-        rt,
-        alloc,
-        &mut reader,
-        &mut writer,
-        session,
-        &admins,
-        &journal,
-        100,
-    );
+    let done = converse(rt, alloc, &mut reader, &mut writer, session, 100);
     Ok(done.err())
 }
 

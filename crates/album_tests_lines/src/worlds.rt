@@ -4,7 +4,9 @@
 //! the Prepare 17 and its answer 18, the Commit 19 and its answer 20. An event that is refused for want of memory is
 //! stepped once more: doubt/memory refuses each allocation of these tests in turn.
 use album_eval::Principal;
-use album_items::{Content, Head, ItemId, ItemValues, Kind, Opening, Picture, Title, Value};
+use album_items::{
+    Content, FirstStamps, Head, ItemId, ItemValues, Kind, Opening, Picture, Title, Value,
+};
 use album_lists::{AccessList, Name};
 use album_permits::{Answer, Event, Out};
 use album_stamps::{ClientNo, Refusal};
@@ -52,6 +54,7 @@ fn opened(alloc: Global) -> Result<World, Refusal> {
         checked: false,
         first: 0,
         items: items(alloc)?,
+        stamps: FirstStamps::new(alloc),
     };
     let world = World::open(alloc, &opening);
     drop(opening);

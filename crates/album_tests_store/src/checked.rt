@@ -11,7 +11,7 @@ use crate::sessions::{OWNED, list};
 use crate::values::{Entry, album_of_two, head, picture};
 use album_access::AceType;
 use album_calls::{Body, Message, Node, Request};
-use album_items::{Album, ItemValues, Items, Opening, Title, Value};
+use album_items::{Album, FirstStamps, ItemValues, Items, Opening, Title, Value};
 use album_stamps::{ClientNo, Refusal};
 use album_world::{Event, Out, World};
 use std::alloc::Global;
@@ -61,6 +61,7 @@ fn opening(alloc: Global, checked: bool) -> Result<Opening, Refusal> {
         checked,
         first: 0,
         items: ItemValues::of(items),
+        stamps: FirstStamps::new(alloc),
     })
 }
 

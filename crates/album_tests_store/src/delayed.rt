@@ -11,7 +11,7 @@ use crate::messages::{item_of, same};
 use crate::sessions::{OWNED, list};
 use crate::values::{Entry, album_of_two, head, picture};
 use album_access::AceType;
-use album_items::{Group, ItemValues, Opening, Value};
+use album_items::{FirstStamps, Group, ItemValues, Opening, Value};
 use album_stamps::Refusal;
 use album_threads::{Opened, OwnedSession, PartitionMail, Service, ServiceNames};
 use crossbeam_channel::{Receiver, Sender, unbounded};
@@ -62,6 +62,7 @@ fn opening(alloc: Global, checked: bool) -> Result<Opening, Refusal> {
         checked,
         first: 0,
         items: ItemValues::of(items),
+        stamps: FirstStamps::new(alloc),
     })
 }
 

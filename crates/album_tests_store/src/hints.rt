@@ -7,7 +7,7 @@ use crate::gates::{Counting, Counts};
 use crate::messages::item_of;
 use crate::sessions::{OWNED, READABLE, list};
 use crate::values::{album_of_two, picture};
-use album_items::{ItemId, ItemValues, Opening, Value};
+use album_items::{FirstStamps, ItemId, ItemValues, Opening, Value};
 use album_stamps::Refusal;
 use album_threads::{Opened, OwnedSession, Service, ServiceNames, Visit, with_opened};
 use std::alloc::Global;
@@ -50,6 +50,7 @@ fn opened(alloc: Global, plain: bool) -> Result<Opened, Refusal> {
         checked: false,
         first: 0,
         items: items(alloc)?,
+        stamps: FirstStamps::new(alloc),
     };
     let opened = Opened::new(alloc, &opening, 1)?;
     if plain {

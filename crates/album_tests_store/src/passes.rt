@@ -1,6 +1,6 @@
 //! What passes see of three histories that may have two marks each (docs/PROTOCOL.md, "Cuts and passes").
 use crate::messages::item_of;
-use album_items::{ItemValues, Opening};
+use album_items::{FirstStamps, ItemValues, Opening};
 use album_partition::Mark;
 use album_passes::Desk;
 use album_stamps::Refusal;
@@ -16,6 +16,7 @@ fn opening(alloc: Global) -> Opening {
         checked: false,
         first: 0,
         items: ItemValues::of(Vec::new(alloc)),
+        stamps: FirstStamps::new(alloc),
     }
 }
 

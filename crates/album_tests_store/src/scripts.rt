@@ -4,7 +4,9 @@ use crate::messages::item_of;
 use crate::values::{Entry, head, list_of, picture};
 use album_access::AceType;
 use album_eval::Principal;
-use album_items::{Album, Content, ItemId, ItemValues, Items, Kind, Opening, Title, Value};
+use album_items::{
+    Album, Content, FirstStamps, ItemId, ItemValues, Items, Kind, Opening, Title, Value,
+};
 use album_stamps::{ClientNo, Refusal};
 use album_views::{Ask, NewList, NewLists};
 use bytes::Bytes;
@@ -138,6 +140,7 @@ pub fn opening(alloc: Global) -> Result<Opening, Refusal> {
         checked: false,
         first: 0,
         items: items(alloc)?,
+        stamps: FirstStamps::new(alloc),
     })
 }
 

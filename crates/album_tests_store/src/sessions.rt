@@ -12,7 +12,7 @@ use crate::values::{Entry, list_of, picture};
 use album_access::AceType;
 use album_audit::Totals;
 use album_eval::Principal;
-use album_items::{ItemValues, Opening, Title, Value};
+use album_items::{FirstStamps, ItemValues, Opening, Title, Value};
 use album_permits::{Answer, Served};
 use album_stamps::Refusal;
 use album_threads::{
@@ -55,6 +55,7 @@ fn opening(alloc: Global, entries: &[Entry]) -> Result<Opening, Refusal> {
         checked: false,
         first: 0,
         items: ItemValues::of(items),
+        stamps: FirstStamps::new(alloc),
     })
 }
 

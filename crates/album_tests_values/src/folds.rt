@@ -1,7 +1,7 @@
 //! What the next epoch opens with (docs/PROTOCOL.md, "Epochs").
 use crate::items::picture;
 use album_epochs::{fold, greatest_stamp};
-use album_items::{ItemId, ItemValues, Items, Kind, Value};
+use album_items::{FirstStamps, ItemId, ItemValues, Items, Kind, Value};
 use album_partition::Mark;
 use album_stamps::{Refusal, Stamp};
 use std::alloc::Global;
@@ -11,6 +11,9 @@ const GREATER: u64 = 131_073;
 
 /// Counter 1 of client 2.
 const LESSER: u64 = 65_538;
+
+/// Of an epoch before, which wrote picture/1 under list 91.
+const EARLIER: u64 = 65_537;
 
 /// In place of a list's number: there is no picture.
 const GONE: u64 = 0;
@@ -96,18 +99,49 @@ fn pictures(alloc: Global, rows: &[(ItemId, Value)]) -> Result<Vec<Under>, Refus
     Ok(pictures)
 }
 
-/// What the histories fold into.
-fn folded(alloc: Global, even: &[Made], odd: &[Made]) -> Result<Vec<Under>, Refusal> {
+/// What the histories fold into, where picture/1 has a stamp at first.
+fn folded(
+    alloc: Global,
+    even: &[Made],
+    odd: &[Made],
+) -> Result<(Vec<Under>, FirstStamps), Refusal> {
     let first = values(alloc, FIRST)?;
+    let mut stamps = FirstStamps::new(alloc);
+    stamps.note(ItemId::new(Kind::Picture, 1), stamp(EARLIER)?)?;
     let even = marks(alloc, even)?;
     let odd = marks(alloc, odd)?;
-    let rows = fold(alloc, first.as_slice(), &[even.as_slice(), odd.as_slice()])?;
-    pictures(alloc, rows.as_slice())
+    let histories = [even.as_slice(), odd.as_slice()];
+    let (rows, stamps) = fold(alloc, first.as_slice(), &stamps, &histories)?;
+    Ok((pictures(alloc, rows.as_slice())?, stamps))
 }
 
-/// Whether that is what is expected.
+/// Whether that is what is expected, and each picture has the stamp of the write that put it under its list.
 fn is_folded(alloc: Global, row: &Row) -> Result<bool, Refusal> {
-    Ok(folded(alloc, row.0, row.1)?.as_slice() == row.2)
+    let (pictures, stamps) = folded(alloc, row.0, row.1)?;
+    Ok(pictures.as_slice() == row.2 && are_stamped(&stamps, row.2))
+}
+
+/// Whether the stamps are those of the writes that put the pictures under these lists, and no other picture has one.
+fn are_stamped(stamps: &FirstStamps, pictures: &[Under]) -> bool {
+    for number in 0..6 {
+        let item = ItemId::new(Kind::Picture, number);
+        let list = pictures.iter().find(|under| under.0 == number);
+        let written = list.map_or(0, |under| stamp_by(under.1));
+        if stamps.shown(item, Stamp::zero()).value() != written {
+            return false;
+        }
+    }
+    true
+}
+
+/// The stamp at which a picture was put under this list.
+fn stamp_by(list: u64) -> u64 {
+    match list {
+        10..=14 => LESSER,
+        20 => GREATER,
+        91 => EARLIER,
+        _ => 0,
+    }
 }
 
 /// A stamp is carried where each partition of its items has prepared it, whatever it knows of the others.

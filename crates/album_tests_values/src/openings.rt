@@ -1,7 +1,7 @@
 //! The state that the service opens with (docs/FORMATS.md, "Limits").
 use crate::items::picture;
-use album_items::{ItemId, ItemValues, Kind, Opening, Value};
-use album_stamps::{MAX_OPENING_ITEMS, Refusal};
+use album_items::{FirstStamps, ItemId, ItemValues, Kind, Opening, Value};
+use album_stamps::{MAX_OPENING_ITEMS, Refusal, Stamp};
 use std::alloc::Global;
 
 fn picture_row(alloc: Global, number: u64, list: u64) -> Result<(ItemId, Value), Refusal> {
@@ -21,10 +21,10 @@ fn two_pictures(alloc: Global, lists: [u64; 2]) -> Result<ItemValues, Refusal> {
 /// What the check of an opening of copies of two pictures under lists of these numbers says.
 fn two_checked(alloc: Global, lists: [u64; 2]) -> Result<(), Refusal> {
     let items = two_pictures(alloc, lists)?;
-    checked(items.clone()?)
+    checked(alloc, items.clone()?)
 }
 
-fn checked(items: ItemValues) -> Result<(), Refusal> {
+fn checked(alloc: Global, items: ItemValues) -> Result<(), Refusal> {
     let opening = Opening {
         parts: 3,
         limit: 1000,
@@ -32,6 +32,7 @@ fn checked(items: ItemValues) -> Result<(), Refusal> {
         checked: false,
         first: 0,
         items,
+        stamps: FirstStamps::new(alloc),
     };
     opening.check()
 }
@@ -59,8 +60,41 @@ fn under_policy(alloc: Global, policy: u64) -> Result<(), Refusal> {
         checked: false,
         first: 0,
         items: ItemValues::of(Vec::new(alloc)),
+        stamps: FirstStamps::new(alloc),
     };
     opening.check()
+}
+
+/// What the check of an opening with no item says, after an epoch of counter 1, where a first value has this stamp.
+fn with_stamp(alloc: Global, value: u64) -> Result<(), Refusal> {
+    let stamp = Stamp::read(value).ok_or(Refusal::BadRequest)?;
+    let mut stamps = FirstStamps::new(alloc);
+    stamps.note(ItemId::new(Kind::Picture, 0), stamp)?;
+    let opening = Opening {
+        parts: 1,
+        limit: 2,
+        policy: 3,
+        checked: true,
+        first: 1,
+        items: ItemValues::of(Vec::new(alloc)),
+        stamps,
+    };
+    opening.check()
+}
+
+/// The greatest stamp of counter 1, and the first ones of counters 1 and 2.
+const STAMPS: &[(u64, Result<(), Refusal>)] = &[
+    (0, Ok(())),
+    (65_537, Ok(())),
+    (131_071, Ok(())),
+    (131_073, Err(Refusal::BadOpening)),
+];
+
+#[test]
+fn stamps_of_the_epochs_before(rt: HostRuntime) {
+    for (value, said) in STAMPS {
+        assert_eq!(rt; with_stamp(rt.alloc(), *value), *said);
+    }
 }
 
 /// Each number, and what the check says of a policy of it.
@@ -85,7 +119,7 @@ fn many_pictures(alloc: Global, len: usize) -> Result<(), Refusal> {
     for number in 0..len {
         rows.push(picture_row(alloc, number as u64, number as u64)?)?;
     }
-    checked(ItemValues::of(rows))
+    checked(alloc, ItemValues::of(rows))
 }
 
 /// How many pictures, and what the check says.

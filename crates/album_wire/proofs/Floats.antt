@@ -108,8 +108,9 @@ no_float_in_message number m = go m.body
 pub no_float_in_header : (header : Header) → has_float (opening_json (opening.Open header)) ≡ false
 no_float_in_header header = refl
 
-pub no_float_in_first_value : (item : ℕ) (value : Value) → has_float (opening_json (opening.Item item value)) ≡ false
-no_float_in_first_value item value = rw (in_value value) refl
+pub no_float_in_first_value : (item stamp : ℕ) (value : Value)
+    → has_float (opening_json (opening.Item item stamp value)) ≡ false
+no_float_in_first_value item stamp value = rw (in_value value) refl
 
 pub no_float_in_mark : (part stamp : ℕ) (writes : List (ℕ × Value)) (items : List ℕ)
     → has_float (mark_json part stamp writes items) ≡ false
@@ -147,7 +148,7 @@ no_float_in_reasons client reasons = rw (in_list reason_json in_reason reasons) 
 in_served : (client : ℕ) (s : Served) → has_float (served_json client s) ≡ false
 in_served client (served.Picture object stamp title content) = refl
 in_served client (served.Group object stamp members) = no_float_in_group client object stamp members
-in_served client (served.Entries object stamp entries) = no_float_in_entries client object stamp entries
+in_served client (served.Entries object of stamp entries) = no_float_in_entries client object stamp entries
 in_served client (served.Listed album stamp rows) = no_float_in_rows client album stamp rows
 
 pub no_float_in_answer : (client : ℕ) (a : Answer) → has_float (answer_json client a) ≡ false

@@ -12,3 +12,4 @@ pub mod MarkSpelling
 pub mod ReadBack
 pub mod OneLine
 pub mod Spellings
+pub mod ShownLemmas

@@ -4,8 +4,10 @@ use Rattle.serde_json.specs.Data.{Data}
 use Rattle.serde_json.specs.Find.{get}
 use Rattle.album_items.specs.declared.values.Value.{Value}
 use Rattle.album_lines.specs.Fields.{guard, has, member_or, whole_of, truth_of}
+use Rattle.album_wire.specs.EventShape.{stamp_named}
+use Rattle.album_wire.specs.EventSpelling.{IsStamp}
 use Rattle.album_wire.specs.ItemShapes.{SpelledValue, value_shape_of}
-use Rattle.album_wire.specs.OpeningShape.{SpelledOpening, Open, Item, Begin, header_keys, header_of, open_shape_of, item_shape_of, begin_shape_of, opening_shape_of}
+use Rattle.album_wire.specs.OpeningShape.{SpelledOpening, Open, Item, Begin, header_keys, item_keys, header_of, open_shape_of, item_shape_of, begin_shape_of, opening_shape_of}
 use Rattle.album_wire.specs.OpeningLine.{value_read, opening_read, opening_line_of}
 use Rattle.album_wire.specs.ObjectSpelling.{IsWhole, IsTruth, HasMember, HasJust}
 use Rattle.album_wire.specs.ItemSpelling.{IsItem, IsValue}
@@ -16,6 +18,7 @@ use Rattle.album_wire.specs.declared.opening_shape.Header.{Header}
 use Rattle.album_wire.specs.declared.opening_shape.TheConstants.{DEFAULT_LIMIT, DEFAULT_POLICY}
 use Rattle.album_lines.proofs.Steps.{step_taken, same_value, test_passed}
 use Rattle.album_wire.proofs.Forms.{step_then, on_test, on_true, on_false, whole_form, read_whole, truth_form, read_truth, names_taken, names_then, member_taken, member_then, member_as, member_parts, may_form, read_may, is_in, is_out, line_by, known_taken, known_then, whole_taken, whole_then}
+use Rattle.album_wire.proofs.EventSpelling.{stamp_form, read_stamp}
 use Rattle.album_wire.proofs.ItemSpelling.{ReadsItems, value_spelled, value_parts, item_taken, item_then}
 
 -- ---- headers
@@ -135,34 +138,39 @@ module _ (reads : ReadsItems) where
   unfolding item_shape_of opening_read
   item_spelled v s d h g =
       let Shape : SpelledValue → Data → Type 0 = λ t e. value_shape_of e ≡ Ok t in
-      let names = names_taken (codes "item" ∷ codes "value" ∷ []) d _ s h in
+      let names = names_taken item_keys d _ s h in
       let item = item_taken reads (codes "item") d _ s names.1 in
-      let of_value = known_taken (codes "value") d value_shape_of _ s item.2 in
-      let shape : Item item.0 of_value.0 ≡ s = same_value _ _ of_value.2 in
+      let stamp = step_taken (member_or 0 stamp_named (get (codes "stamp") d)) _ s item.2 in
+      let of_value = known_taken (codes "value") d value_shape_of _ s stamp.2 in
+      let shape : Item item.0 stamp.0 of_value.0 ≡ s = same_value _ _ of_value.2 in
       let good = step_taken (value_read of_value.0) _ v (ap opening_read shape ∙ g) in
-      let same : line.Item item.0 good.0 ≡ v = same_value _ _ good.2 in
-      let is : IsFirstValue item.0 good.0 d = record {
+      let same : line.Item item.0 stamp.0 good.0 ≡ v = same_value _ _ good.2 in
+      let is : IsFirstValue item.0 stamp.0 good.0 d = record {
         names = names.0;
         item_there = item.1;
+        stamped = may_form (get (codes "stamp") d) 0 stamp_named IsStamp stamp_form stamp.0 stamp.1;
         value_there =
             member_as (codes "value") d (Shape of_value.0) (IsValue good.0)
             (λ e read. value_spelled reads good.0 of_value.0 e read good.1) of_value.1;
       } in
       subst (λ w. IsOpening w d) same is
 
-  item_parts : (item : ℕ) (value : Value) (d : Data) → IsFirstValue item value d
-      → (s : SpelledOpening) × (opening_shape_of d ≡ Ok s) × (opening_read s ≡ Ok (line.Item item value))
+  item_parts : (item stamp : ℕ) (value : Value) (d : Data) → IsFirstValue item stamp value d
+      → (s : SpelledOpening) × (opening_shape_of d ≡ Ok s) × (opening_read s ≡ Ok (line.Item item stamp value))
   unfolding item_shape_of opening_read
-  item_parts item value d is =
+  item_parts item stamp value d is =
+      let stamped =
+      read_may (get (codes "stamp") d) 0 stamp_named (IsStamp stamp) stamp (read_stamp stamp) is.stamped in
       let of_value =
       member_parts (codes "value") d value_shape_of (IsValue value) (λ t. value_read t ≡ Ok value)
       (value_parts reads value) is.value_there in
-      let s : SpelledOpening = Item item of_value.0 in
+      let s : SpelledOpening = Item item stamp of_value.0 in
       let shape : item_shape_of d ≡ Ok s =
-      names_then (codes "item" ∷ codes "value" ∷ []) d _ s is.names
+      names_then item_keys d _ s is.names
       (item_then reads (codes "item") d item _ s is.item_there
-      (known_then (codes "value") d value_shape_of of_value.0 _ s of_value.1 refl)) in
-      let read : opening_read s ≡ Ok (line.Item item value) =
+      (step_then (member_or 0 stamp_named (get (codes "stamp") d)) _ stamp s stamped
+      (known_then (codes "value") d value_shape_of of_value.0 _ s of_value.1 refl))) in
+      let read : opening_read s ≡ Ok (line.Item item stamp value) =
       step_then (value_read of_value.0) _ value _ of_value.2 refl in
       let which : opening_shape_of d ≡ Ok s =
       on_false (has (codes "open") d) _ _ s (is_out _ (codes "open") d is.names refl)
@@ -181,7 +189,7 @@ module _ (reads : ReadsItems) where
   opening_parts : (v : OpeningLine) (d : Data) → IsOpening v d
       → (s : SpelledOpening) × (opening_shape_of d ≡ Ok s) × (opening_read s ≡ Ok v)
   opening_parts (line.Open header) d is = open_parts header d is
-  opening_parts (line.Item item value) d is = item_parts item value d is
+  opening_parts (line.Item item stamp value) d is = item_parts item stamp value d is
   opening_parts line.Begin d is = begin_parts d is
 
   pub one_opening_line : (line : OpeningLine) (bytes : List ℕ)

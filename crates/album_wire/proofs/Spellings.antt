@@ -47,7 +47,7 @@ use Rattle.album_wire.specs.MarkSpelling.{IsWritten, IsWrite, IsMark}
 use Rattle.album_wire.specs.MessageJson.{write_json}
 use Rattle.album_wire.specs.OpeningJson.{header_json, opening_json}
 use Rattle.album_wire.specs.OpeningLine.{opening_line_of}
-use Rattle.album_wire.specs.OpeningShape.{header_keys}
+use Rattle.album_wire.specs.OpeningShape.{header_keys, item_keys}
 use Rattle.album_wire.specs.OpeningSpelling.{IsHeader, IsOpening}
 use Rattle.album_wire.specs.Spellable.{FitsLine, IsSpellableItem, IsSpellableChild, IsSpellableContent, IsSpellableWho, IsSpellableMember, IsSpellableEntry, IsSpellableHome, IsSpellablePicture, IsSpellableAlbum, IsSpellableList, IsSpellableGroup, IsSpellable, IsSpellableHeader, IsSpellableLine, IsSpellableWritten, IsSpellableWrite, IsSpellableMark}
 use Rattle.album_wire.specs.ValueJson.{owner_text, group_text, who_text, member_text, item_json, entry_json, member_json, home_json, content_json, picture_json, album_json, list_json, group_json, value_json}
@@ -399,10 +399,11 @@ opening_form (line.Open header) h = record {
   names = names_spelled (codes "open" ∷ []) (opening_json (line.Open header)) true refl;
   value = header_form header;
 }
-opening_form (line.Item item value) h = record {
-  names = names_spelled (codes "item" ∷ codes "value" ∷ []) (opening_json (line.Item item value)) true refl;
+opening_form (line.Item item stamp value) h = record {
+  names = names_spelled item_keys (opening_json (line.Item item stamp value)) true refl;
   item_there = item_form item h.0;
-  value_there = value_form value h.1;
+  stamped = (refl, h.1.0);
+  value_there = value_form value h.1.1;
 }
 opening_form line.Begin h = record {
   names = names_spelled (codes "begin" ∷ []) (opening_json line.Begin) true refl;
@@ -435,10 +436,23 @@ header_sound n header h = (
   refl,
 )
 
+stamp_fits : (stamp : ℕ) → IsTrue (is_stamp stamp) → FitsLine stamp
+stamp_fits stamp h = grind (arith, nat_tests)
+
 opening_sound : (said : OpeningLine) → IsSpellableLine said → IsSound (opening_json said) max_depth
 opening_sound (line.Open header) h = ((word (codes "open") refl, header_sound 125 header h, tt), refl)
-opening_sound (line.Item item value) h =
-    ((word (codes "item") refl, item_utf8 item h.0, (word (codes "value") refl, value_sound 123 value h.1, tt)), refl)
+opening_sound (line.Item item stamp value) h = (
+  (
+    word (codes "item") refl,
+    item_utf8 item h.0,
+    (
+      word (codes "stamp") refl,
+      stamp_fits stamp h.1.0,
+      (word (codes "value") refl, value_sound 123 value h.1.1, tt),
+    ),
+  ),
+  refl,
+)
 opening_sound line.Begin h = ((word (codes "begin") refl, tt, tt), refl)
 
 pub opening_in_line : (said : OpeningLine) → IsSpellableLine said
@@ -491,9 +505,6 @@ mark_form mark h = record {
   stamp = (refl, h.stamp);
   writes = (map write_json mark.writes, refl, zip_list write_json IsSpellableWrite IsWrite write_form mark.writes h.writes);
 }
-
-stamp_fits : (stamp : ℕ) → IsTrue (is_stamp stamp) → FitsLine stamp
-stamp_fits stamp h = grind (arith, nat_tests)
 
 mark_sound : (mark : PreparedMark) → IsSpellableMark mark → IsSound (of_mark mark) max_depth
 mark_sound mark h = (

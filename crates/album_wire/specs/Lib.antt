@@ -17,10 +17,12 @@ pub mod TalkLine
 pub mod ValueJson
 pub mod MessageJson
 pub mod OutJson
+pub mod ShownStamps
 pub mod RecordJson
 pub mod TalkJson
 pub mod FiguresJson
 pub mod OpeningJson
+pub mod FirstValues
 pub mod MarkShape
 pub mod MarkLine
 pub mod MarkSpelling

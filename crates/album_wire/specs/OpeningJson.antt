@@ -19,11 +19,14 @@ header_json header = object_data (
     ∷ (codes "trace", boolean header.trace)
     ∷ [])
 
--- a header, an item with its value, or that this is all
+-- a header, an item with its value and the stamp of that, or that this is all
 abbrev pub opening_json : OpeningLine → Data
 opening_json (line.Open header) = object_data ((codes "open", header_json header) ∷ [])
-opening_json (line.Item item value) =
-    object_data ((codes "item", item_json item) ∷ (codes "value", value_json value) ∷ [])
+opening_json (line.Item item stamp value) = object_data (
+    (codes "item", item_json item)
+    ∷ (codes "stamp", whole_data stamp)
+    ∷ (codes "value", value_json value)
+    ∷ [])
 opening_json line.Begin = object_data ((codes "begin", boolean true) ∷ [])
 
 -- the line

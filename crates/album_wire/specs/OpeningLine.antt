@@ -1,4 +1,5 @@
--- What a line of an opening says: how the store is to be opened, an item with its first value, or that this is all.
+-- What a line of an opening says: how the store is to be opened, an item with its first value and the stamp of that, or
+-- that this is all.
 use Rattle.std.specs.Prelude.{ℕ, List, Result, Ok}
 use Rattle.album_stamps.specs.declared.refusals.Refusal.{Refusal}
 use Rattle.album_stamps.specs.Outcome.{◌>>=◌}
@@ -38,7 +39,7 @@ value_read (Group head members) = do
 
 unfoldable pub opening_read : SpelledOpening → Result OpeningLine Refusal
 opening_read (Open header) = Ok (line.Open header)
-opening_read (Item item value) = value_read value >>= λ value. Ok (line.Item item value)
+opening_read (Item item stamp value) = value_read value >>= λ value. Ok (line.Item item stamp value)
 opening_read Begin = Ok line.Begin
 
 -- what the bytes of a line of an opening say, or the first test that they fail

@@ -5,6 +5,7 @@ use Rattle.serde_json.specs.Find.{get}
 use Rattle.album_stamps.specs.declared.refusals.Refusal.{Refusal}
 use Rattle.album_stamps.specs.Outcome.{◌>>=◌}
 use Rattle.album_lines.specs.Fields.{guard, only_of, field_of, has, member_or, whole_of, truth_of}
+use Rattle.album_wire.specs.EventShape.{stamp_named}
 use Rattle.album_wire.specs.ItemShapes.{SpelledValue, spelled_value, item_named, value_shape_of}
 use Rattle.album_wire.specs.declared.opening_shape.Header.{Header}
 use Rattle.album_wire.specs.declared.opening_shape.OpeningShape.{OpeningShape}
@@ -14,12 +15,12 @@ use Rattle.album_wire.specs.declared.opening_shape.TheConstants.{DEFAULT_LIMIT, 
 -- a line of an opening as it is spelled
 pub data SpelledOpening : Type 0 where
   Open : Header → SpelledOpening
-  Item : (item : ℕ) → SpelledValue → SpelledOpening
+  Item : (item stamp : ℕ) → SpelledValue → SpelledOpening
   Begin : SpelledOpening
 
 abbrev pub spelled_opening : OpeningShape → SpelledOpening
 spelled_opening (shape.Open header) = Open header
-spelled_opening (shape.Item item value) = Item item (spelled_value value)
+spelled_opening (shape.Item item stamp value) = Item item stamp (spelled_value value)
 spelled_opening shape.Begin = Begin
 
 -- the names of the members of a header
@@ -45,13 +46,18 @@ open_shape_of d = do
   header ← field_of (codes "open") d >>= header_of
   Ok (Open header)
 
--- {"item": item, "value": its value}
+-- the names of the members of an item's line
+abbrev pub item_keys : List (List ℕ)
+item_keys = codes "item" ∷ codes "stamp" ∷ codes "value" ∷ []
+
+-- {"item": item, "value": its value}, and perhaps the stamp at which an epoch before wrote it
 unfoldable pub item_shape_of : Data → Result SpelledOpening Refusal
 item_shape_of d = do
-  _ ← only_of (codes "item" ∷ codes "value" ∷ []) d
+  _ ← only_of item_keys d
   item ← field_of (codes "item") d >>= item_named
+  stamp ← member_or 0 stamp_named (get (codes "stamp") d)
   value ← field_of (codes "value") d >>= value_shape_of
-  Ok (Item item value)
+  Ok (Item item stamp value)
 
 -- {"begin": true}
 unfoldable pub begin_shape_of : Data → Result SpelledOpening Refusal

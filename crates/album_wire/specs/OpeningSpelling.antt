@@ -1,11 +1,12 @@
 -- The lines of an opening, as they are spelled.
-use Rattle.std.specs.Prelude.{◌≡◌, ℕ, List, [], ◌∷◌, codes, true, false}
+use Rattle.std.specs.Prelude.{◌≡◌, ℕ, List, codes, true, false}
 use Rattle.serde_json.specs.Data.{Data}
 use Rattle.album_items.specs.declared.values.Value.{Value}
 use Rattle.album_lines.specs.Spelling.{IsJson, HasOnly}
 use Rattle.album_wire.specs.ObjectSpelling.{IsWhole, IsTruth, HasMember, MayHave, HasJust}
+use Rattle.album_wire.specs.EventSpelling.{IsStamp}
 use Rattle.album_wire.specs.ItemSpelling.{IsItem, IsValue}
-use Rattle.album_wire.specs.OpeningShape.{header_keys}
+use Rattle.album_wire.specs.OpeningShape.{header_keys, item_keys}
 use Rattle.album_wire.specs.declared.opening_line.OpeningLine.{OpeningLine}
 use Rattle.album_wire.specs.declared.opening_line.OpeningLine.TheVariants as line
 use Rattle.album_wire.specs.declared.opening_shape.Header.{Header}
@@ -22,16 +23,17 @@ pub record IsHeader (header : Header) (d : Data) : Type 0 where
   pub first : MayHave (codes "first") (header.first ≡ 0) (IsWhole header.first) d
   pub trace : MayHave (codes "trace") (header.trace ≡ false) (IsTruth header.trace) d
 
--- an item, and its first value
-pub record IsFirstValue (item : ℕ) (value : Value) (d : Data) : Type 0 where
-  pub names : HasOnly (codes "item" ∷ codes "value" ∷ []) d
+-- an item, and its first value; where `stamp` is left out, no epoch before wrote it
+pub record IsFirstValue (item stamp : ℕ) (value : Value) (d : Data) : Type 0 where
+  pub names : HasOnly item_keys d
   pub item_there : HasMember (codes "item") (IsItem item) d
+  pub stamped : MayHave (codes "stamp") (stamp ≡ 0) (IsStamp stamp) d
   pub value_there : HasMember (codes "value") (IsValue value) d
 
 -- the object of a line: a header, an item with its value, or that this is all
 abbrev pub IsOpening : OpeningLine → Data → Type 0
 IsOpening (line.Open header) = HasJust (codes "open") (IsHeader header)
-IsOpening (line.Item item value) = IsFirstValue item value
+IsOpening (line.Item item stamp value) = IsFirstValue item stamp value
 IsOpening line.Begin = HasJust (codes "begin") (IsTruth true)
 
 -- the bytes of a line that says this

@@ -107,7 +107,7 @@ listed_json client album stamp rows = object_data (
 abbrev pub served_json : ℕ → Served → Data
 served_json client (served.Picture object stamp title content) = picture_served client object stamp title content
 served_json client (served.Group object stamp members) = group_served client object stamp members
-served_json client (served.Entries object stamp entries) = entries_served client object stamp entries
+served_json client (served.Entries object of stamp entries) = entries_served client object stamp entries
 served_json client (served.Listed album stamp rows) = listed_json client album stamp rows
 
 -- the index of the entry that denies, or the end; of what is granted, nothing

@@ -1,6 +1,6 @@
 -- What has a line that is read back as what it is. Most of it the types say of themselves: names, titles, contents and
--- lists have their bytes, their lengths and their entries, texts are UTF-8, and numbers fit 64 bits. Not so the kinds of
--- an album's children, and how many members a group has.
+-- lists have their bytes, their lengths and their entries, texts are UTF-8, and numbers fit 64 bits. Not so the kinds
+-- of an album's children, and how many members a group has.
 use Rattle.std.specs.Prelude.{◌≡◌, ◌<◌, ◌≤◌, ◌^◌, ◌⊎◌, ◌||◌, ℕ, List, length, All, Bool, true, false, not, nat_le, IsTrue, Option, Some, None, ⊤}
 use Rattle.std.specs.List.{list_all}
 use Rattle.std.specs.Str.{IsUtf8}
@@ -130,7 +130,7 @@ pub record IsSpellableHeader (header : Header) : Type 0 where
 -- a line of an opening
 abbrev pub IsSpellableLine : OpeningLine → Type 0
 IsSpellableLine (line.Open header) = IsSpellableHeader header
-IsSpellableLine (line.Item item value) = IsSpellableItem item × IsSpellable value
+IsSpellableLine (line.Item item stamp value) = IsSpellableItem item × (IsTrue (is_stamp stamp) × IsSpellable value)
 IsSpellableLine line.Begin = ⊤
 
 -- a write: its value may be missing

@@ -4,6 +4,7 @@
 //! the first test that it fails. A store's outputs come in too, and their lines go out.
 //!
 //! Read `opening_line` first: the shape of a line (`opening_shape`, `item_shapes`), then its values (`item_texts`).
+//! `first_values` gathers them into an opening.
 //! `event_line` goes the same way, by `event_shape`; `talk_line`, what a connection says, by `talk_shape`. What both
 //! may ask is in `ask_shape` and `asks`. `laws` says that what is read is exactly what the bytes spell. What is written
 //! is in `out_json` and `talk_json`, which make a JSON value first, by `value_json` and `message_json`. The most
@@ -15,6 +16,7 @@
 #![tactic(auto)]
 
 // An opening: its items, and its lines.
+mod first_values;
 mod item_shapes;
 mod item_texts;
 mod opening_line;
@@ -58,6 +60,7 @@ pub use album_lines::{
 pub use event_line::{read_event, worked_events};
 pub use event_shape::{MAX_DELIVERIES, Spelled};
 pub use figures_json::{ServiceFigures, worked_figures, write_figures};
+pub use first_values::FirstValues;
 pub use laws::{
     events_by_line, hellos_by_line, marks_by_line, marks_read_back, openings_by_line,
     openings_read_back, talks_by_line,
@@ -67,7 +70,7 @@ pub use message_json::worked_messages;
 pub use opening_line::{OpeningLine, read_opening_line, worked_openings};
 pub use opening_shape::{DEFAULT_LIMIT, DEFAULT_POLICY, Header};
 pub use opening_text::{worked_opening_texts, write_begin, write_first_value, write_header};
-pub use out_json::{worked_outs, write_answer, write_out};
+pub use out_json::{worked_outs, write_answer, write_out, write_shown_answer, write_shown_out};
 pub use record_json::{worked_records, write_record};
 pub use spellable::{
     headers_are_spellable, is_spellable, is_spellable_first_value, is_spellable_mark,

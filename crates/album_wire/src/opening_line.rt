@@ -1,4 +1,5 @@
-//! Lines of an opening: how the store is to be opened, the items with their first values, and that this is all.
+//! Lines of an opening: how the store is to be opened, the items with their first values and the stamps of these, and
+//! that this is all.
 ghost use Rattle.std.specs.Prelude.{◌≡◌, ◌++◌, [], ◌∷◌, true, false, None, Ok, Err, codes};
 ghost use Rattle.album_stamps.specs.Outcome.{Gives};
 ghost use Rattle.album_items.specs.ItemIds.{picture, album, list};
@@ -12,7 +13,7 @@ use crate::opening_shape::{Header, OpeningShape, opening_shape};
 use album_items::{Album, Group, Head, ItemId, Items, Members, Picture, Value};
 use album_lines::{access_list, data, members};
 use album_lists::Name;
-use album_stamps::Refusal;
+use album_stamps::{Refusal, Stamp};
 use json::Scratch;
 use std::alloc::Global;
 
@@ -21,8 +22,9 @@ use std::alloc::Global;
 pub enum OpeningLine {
     /// How the store is to be opened. It is the first line.
     Open(Header),
-    /// An item, with its first value.
-    Item(ItemId, Value),
+    /// An item, with the stamp at which an epoch before wrote its first value, which is zero where none did, and that
+    /// value.
+    Item(ItemId, Stamp, Value),
     /// The items are all there.
     Begin,
 }
@@ -109,7 +111,7 @@ pub fn worked_openings()
     ensures picture_line { opening_line_of
         (codes "{\"item\":\"picture/0\",\"value\":{\"content\":\"736561\",\"group\":0,\"home\":0,\"list\":0,"
         ++ codes "\"owner\":\"amy@users\",\"title\":\"Sea\"}}")
-        ≡ Ok (OpeningLine.Item (picture 0) (Value.Picture (record {
+        ≡ Ok (OpeningLine.Item (picture 0) 0 (Value.Picture (record {
           title = codes "Sea";
           content = 115 ∷ 101 ∷ 97 ∷ [];
           head = record { owner = codes "amy"; group = 0; list = 0 };
@@ -118,17 +120,27 @@ pub fn worked_openings()
     ensures album_line { opening_line_of
         (codes "{\"item\":\"album/0\",\"value\":{\"children\":[\"picture/0\"],\"group\":0,\"home\":null,"
         ++ codes "\"list\":1,\"owner\":\"amy@users\",\"title\":\"Trip\"}}")
-        ≡ Ok (OpeningLine.Item (album 0) (Value.Album (record {
+        ≡ Ok (OpeningLine.Item (album 0) 0 (Value.Album (record {
           title = codes "Trip";
           head = record { owner = codes "amy"; group = 0; list = 1 };
           home = None;
           children = picture 0 ∷ [];
         }))) }
+    ensures of_an_epoch_before { opening_line_of
+        (codes "{\"item\":\"list/65537\",\"stamp\":131073,\"value\":{\"entries\":[]}}")
+        ≡ Ok (OpeningLine.Item (list 65537) 131073 (Value.List [])) }
+    ensures of_none { opening_line_of (codes "{\"item\":\"list/7\",\"stamp\":0,\"value\":{\"entries\":[]}}")
+        ≡ Ok (OpeningLine.Item (list 7) 0 (Value.List [])) }
+    // No client has the number 0.
+    ensures no_stamp { opening_line_of
+        (codes "{\"item\":\"list/7\",\"stamp\":65536,\"value\":{\"entries\":[]}}") ≡ Err Refusal.BadRequest }
+    ensures stamp_of_nothing { opening_line_of
+        (codes "{\"item\":\"list/7\",\"stamp\":null,\"value\":{\"entries\":[]}}") ≡ Err Refusal.BadRequest }
     // A value of another kind than its item's is read.
     ensures another_kind { opening_line_of
         (codes "{\"item\":\"list/0\",\"value\":{\"content\":\"736561\",\"group\":0,\"home\":0,\"list\":0,"
         ++ codes "\"owner\":\"amy@users\",\"title\":\"Sea\"}}")
-        ≡ Ok (OpeningLine.Item (list 0) (Value.Picture (record {
+        ≡ Ok (OpeningLine.Item (list 0) 0 (Value.Picture (record {
           title = codes "Sea";
           content = 115 ∷ 101 ∷ 97 ∷ [];
           head = record { owner = codes "amy"; group = 0; list = 0 };
@@ -158,7 +170,9 @@ fn line_of(alloc: Global, shape: OpeningShape) -> Result<OpeningLine, Refusal>
 {
     match shape {
         OpeningShape::Open(header) => Ok(OpeningLine::Open(header)),
-        OpeningShape::Item(item, value) => Ok(OpeningLine::Item(item, value_of(alloc, value)?)),
+        OpeningShape::Item(item, stamp, value) => {
+            Ok(OpeningLine::Item(item, stamp, value_of(alloc, value)?))
+        }
         OpeningShape::Begin => Ok(OpeningLine::Begin),
     }
 }

@@ -3,13 +3,15 @@
 ghost use Rattle.std.specs.Prelude.{◌≡◌, option_map};
 ghost use Rattle.album_stamps.specs.Outcome.{Gives};
 ghost use Rattle.album_lines.specs.Fields.{member_or, whole_of, truth_of};
+ghost use Rattle.album_wire.specs.EventShape.{stamp_named};
 ghost use Rattle.album_wire.specs.OpeningShape.{spelled_opening, header_of, open_shape_of, item_shape_of, begin_shape_of, opening_shape_of};
 ghost use Rattle.album_lines.specs.Trees.{value_data};
 
+use crate::event_shape::stamp_named;
 use crate::item_shapes::{ValueShape, item_under, value_shape};
 use album_items::ItemId;
 use album_lines::{field, has, member, only, truth, whole, whole_under};
-use album_stamps::Refusal;
+use album_stamps::{Refusal, Stamp};
 use json::Value;
 use std::alloc::Global;
 
@@ -40,7 +42,7 @@ pub struct Header {
 #[derive(Drop)]
 pub(crate) enum OpeningShape<'a> {
     Open(Header),
-    Item(ItemId, ValueShape<'a>),
+    Item(ItemId, Stamp, ValueShape<'a>),
     Begin,
 }
 
@@ -116,10 +118,22 @@ fn truth_or(other: bool, value: Option<&Value<'_>>) -> Result<bool, Refusal>
 fn item_shape<'a>(alloc: Global, value: &Value<'a>) -> Result<OpeningShape<'a>, Refusal>
     ensures { Gives spelled_opening result (item_shape_of (value_data value.now)) }
 {
-    only(value, &["item", "value"])?;
+    only(value, &["item", "stamp", "value"])?;
     let item = item_under(value, "item")?;
+    let stamp = first_stamp(member(value, "stamp"))?;
     let shape = value_shape(alloc, field(value, "value")?)?;
-    Ok(OpeningShape::Item(item, shape))
+    Ok(OpeningShape::Item(item, stamp, shape))
+}
+
+/// The stamp at which an epoch before wrote a first value. Where it is left out, none did.
+fn first_stamp(value: Option<&Value<'_>>) -> Result<Stamp, Refusal>
+    ensures { Gives (λ stamp. stamp) result
+        (member_or 0 stamp_named (option_map (λ v. value_data v.now) value.entry)) }
+{
+    match value {
+        None => Ok(Stamp::zero()),
+        Some(value) => stamp_named(value),
+    }
 }
 
 #[tactic(auto, unfolding(crate::specs::OpeningShape::begin_shape_of))]

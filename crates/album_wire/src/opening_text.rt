@@ -1,5 +1,5 @@
-//! The lines of an opening that are written: how the store is to be opened, an item with its first value, and that
-//! this is all.
+//! The lines of an opening that are written: how the store is to be opened, an item with its first value and the stamp
+//! of that, and that this is all.
 ghost use Rattle.std.specs.Prelude.{◌≡◌, ◌++◌, [], ◌∷◌, true, false, codes, IfOk, IsOkUnless};
 ghost use Rattle.serde_json.specs.View.{view};
 ghost use Rattle.album_items.specs.ItemIds.{picture};
@@ -11,7 +11,7 @@ use crate::opening_shape::Header;
 use crate::value_json::{item_json, value_json};
 use album_items::ItemId;
 use album_lines::{json_line, object_of, with_member};
-use album_stamps::Refusal;
+use album_stamps::{Refusal, Stamp};
 use serde_json::{Map, Value};
 use std::alloc::{AllocError, Global};
 
@@ -29,7 +29,8 @@ pub fn write_header(alloc: Global, header: Header) -> Result<Vec<u8>, Refusal>
     Ok(json_line(alloc, value)?)
 }
 
-/// The line of an item with its first value. The line of a missing value can be written, and not read.
+/// The line of an item with its first value, and the stamp at which an epoch before wrote that. The line of a missing
+/// value can be written, and not read.
 ///
 /// # Errors
 ///
@@ -38,12 +39,13 @@ pub fn write_header(alloc: Global, header: Header) -> Result<Vec<u8>, Refusal>
 pub fn write_first_value(
     alloc: Global,
     item: ItemId,
+    stamp: Stamp,
     value: &album_items::Value,
 ) -> Result<Vec<u8>, Refusal>
-    ensures text { IfOk result (λ bytes. bytes.items ≡ opening_text (OpeningLine.Item item value.now)) }
+    ensures text { IfOk result (λ bytes. bytes.items ≡ opening_text (OpeningLine.Item item stamp value.now)) }
     ensures memory { IsOkUnless result Refusal.OutOfMemory }
 {
-    let value = first_value_json(alloc, item, value);
+    let value = first_value_json(alloc, item, stamp, value);
     Ok(json_line(alloc, value)?)
 }
 
@@ -71,13 +73,13 @@ pub fn worked_opening_texts()
       first = 0;
       trace = false;
     })) ≡ codes "{\"open\":{\"checked\":true,\"first\":0,\"limit\":1000,\"parts\":3,\"policy\":3,\"trace\":false}}\n" }
-    ensures item { opening_text (OpeningLine.Item (picture 0) (ItemValue.Picture (record {
+    ensures item { opening_text (OpeningLine.Item (picture 0) 65537 (ItemValue.Picture (record {
       title = codes "Sea";
       content = 115 ∷ 101 ∷ 97 ∷ [];
       head = record { owner = codes "amy"; group = 0; list = 0 };
       home = 0;
-    }))) ≡ codes "{\"item\":\"picture/0\",\"value\":{\"content\":\"736561\",\"group\":0,\"home\":0,\"list\":0,"
-        ++ codes "\"owner\":\"amy@users\",\"title\":\"Sea\"}}\n" }
+    }))) ≡ codes "{\"item\":\"picture/0\",\"stamp\":65537,\"value\":{\"content\":\"736561\",\"group\":0,"
+        ++ codes "\"home\":0,\"list\":0,\"owner\":\"amy@users\",\"title\":\"Sea\"}}\n" }
     ensures begin { opening_text OpeningLine.Begin ≡ codes "{\"begin\":true}\n" }
 {}
 
@@ -103,11 +105,13 @@ fn header_json(alloc: Global, header: Header) -> Result<Value, AllocError>
 fn first_value_json(
     alloc: Global,
     item: ItemId,
+    stamp: Stamp,
     value: &album_items::Value,
 ) -> Result<Value, AllocError>
-    ensures { IfOk result (λ v. view v ≡ opening_json (OpeningLine.Item item value.now)) }
+    ensures { IfOk result (λ v. view v ≡ opening_json (OpeningLine.Item item stamp value.now)) }
 {
     let fields = with_member(alloc, Ok(Map::new(alloc)), "item", item_json(alloc, item));
+    let fields = with_member(alloc, fields, "stamp", Ok(Value::from(stamp.value())));
     object_of(with_member(alloc, fields, "value", value_json(alloc, value)))
 }
 

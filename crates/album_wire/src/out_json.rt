@@ -5,6 +5,7 @@ ghost use Rattle.album_items.specs.ItemIds.{picture, album};
 ghost use Rattle.album_wire.specs.MessageJson.{message_json};
 ghost use Rattle.album_wire.specs.ValueJson.{members_named};
 ghost use Rattle.album_wire.specs.OutJson.{note_fields, note_json, answer_fields, answer_about, row_json, rows_json, picture_served, group_served, entries_served, listed_json, served_json, at_json, reason_json, reasons_json, denied_json, missing_json, why_word, busy_json, ended_json, unsettled_json, refused_json, answer_json, out_line};
+ghost use Rattle.album_wire.specs.ShownStamps.{served_shown, answer_shown, out_shown};
 ghost use Rattle.album_lines.specs.Output.{line_text};
 
 use crate::message_json::message_json;
@@ -12,7 +13,7 @@ use crate::object_text::{begin_answer, end_line, put_number, put_text};
 use crate::value_json::{entries_json, item_json, item_text, members_json};
 use album_calls::Message;
 use album_eval::Verdict;
-use album_items::{Content, ItemId, Title};
+use album_items::{Content, FirstStamps, ItemId, Title};
 use album_lines::{array_of, json_line, object_of, with_item, with_member};
 use album_listing::{Reason, Row};
 use album_lists::{Ace, Member};
@@ -29,16 +30,34 @@ use std::alloc::{AllocError, Global};
 /// # Errors
 ///
 /// `OutOfMemory`.
-#[tactic(auto, unfolding(crate::specs::OutJson::out_line))]
 pub fn write_out(alloc: Global, out: &Out, message: Option<&Message>) -> Result<Vec<u8>, Refusal>
     ensures text { IfOk result (λ bytes. bytes.items ≡ out_line out.now (option_map (λ m. m.now) message.entry)) }
+    ensures memory { IsOkUnless result Refusal.OutOfMemory }
+{
+    write_shown_out(alloc, &FirstStamps::new(alloc), out, message)
+}
+
+/// The same in a later epoch, whose first values have these stamps.
+///
+/// # Errors
+///
+/// `OutOfMemory`.
+#[tactic(auto, unfolding(crate::specs::OutJson::out_line))]
+pub fn write_shown_out(
+    alloc: Global,
+    stamps: &FirstStamps,
+    out: &Out,
+    message: Option<&Message>,
+) -> Result<Vec<u8>, Refusal>
+    ensures text { IfOk result (λ bytes. bytes.items
+        ≡ out_line (out_shown stamps.now out.now) (option_map (λ m. m.now) message.entry)) }
     ensures memory { IsOkUnless result Refusal.OutOfMemory }
 {
     match (out, message) {
         (Out::Sent(_), None) => Ok(Vec::new(alloc)),
         (Out::Sent(number), Some(message)) => Ok(message_line(alloc, *number, message)?),
         (Out::Noted(client, note), _) => Ok(note_line(alloc, *client, *note)?),
-        (Out::Answered(client, answer), _) => write_answer(alloc, *client, answer),
+        (Out::Answered(client, answer), _) => write_shown_answer(alloc, stamps, *client, answer),
     }
 }
 
@@ -51,7 +70,25 @@ pub fn write_answer(alloc: Global, client: ClientNo, answer: &Answer) -> Result<
     ensures text { IfOk result (λ bytes. bytes.items ≡ line_text (answer_json client answer.now)) }
     ensures memory { IsOkUnless result Refusal.OutOfMemory }
 {
-    Ok(answer_line(alloc, client, answer)?)
+    write_shown_answer(alloc, &FirstStamps::new(alloc), client, answer)
+}
+
+/// The same in a later epoch, whose first values have these stamps.
+///
+/// # Errors
+///
+/// `OutOfMemory`.
+pub fn write_shown_answer(
+    alloc: Global,
+    stamps: &FirstStamps,
+    client: ClientNo,
+    answer: &Answer,
+) -> Result<Vec<u8>, Refusal>
+    ensures text { IfOk result
+        (λ bytes. bytes.items ≡ line_text (answer_json client (answer_shown stamps.now answer.now))) }
+    ensures memory { IsOkUnless result Refusal.OutOfMemory }
+{
+    Ok(answer_line(alloc, stamps, client, answer)?)
 }
 
 /// A law: lines of notes and answers that were worked out by hand.
@@ -104,11 +141,17 @@ fn note_line(alloc: Global, client: ClientNo, note: Note) -> Result<Vec<u8>, All
 }
 
 #[tactic(auto, using(crate::proofs::Floats::no_float_in_answer))]
-fn answer_line(alloc: Global, client: ClientNo, answer: &Answer) -> Result<Vec<u8>, AllocError>
-    ensures { IfOk result (λ bytes. bytes.items ≡ line_text (answer_json client answer.now)) }
+fn answer_line(
+    alloc: Global,
+    stamps: &FirstStamps,
+    client: ClientNo,
+    answer: &Answer,
+) -> Result<Vec<u8>, AllocError>
+    ensures { IfOk result
+        (λ bytes. bytes.items ≡ line_text (answer_json client (answer_shown stamps.now answer.now))) }
 {
     match answer {
-        Answer::Served(served) => served_line(alloc, client, served),
+        Answer::Served(served) => served_line(alloc, stamps, client, served),
         Answer::Denied(denial) => json_line(alloc, denied_json(alloc, client, denial.as_slice())),
         Answer::Missing(object) => json_line(alloc, missing_json(alloc, client, *object)),
         Answer::Busy(why) => json_line(alloc, busy_json(alloc, client, *why)),
@@ -121,8 +164,14 @@ fn answer_line(alloc: Global, client: ClientNo, answer: &Answer) -> Result<Vec<u
     }
 }
 
-fn served_line(alloc: Global, client: ClientNo, served: &Served) -> Result<Vec<u8>, AllocError>
-    ensures { IfOk result (λ bytes. bytes.items ≡ line_text (served_json client served.now)) }
+fn served_line(
+    alloc: Global,
+    stamps: &FirstStamps,
+    client: ClientNo,
+    served: &Served,
+) -> Result<Vec<u8>, AllocError>
+    ensures { IfOk result
+        (λ bytes. bytes.items ≡ line_text (served_json client (served_shown stamps.now served.now))) }
 {
     match served {
         Served::Picture {
@@ -130,28 +179,33 @@ fn served_line(alloc: Global, client: ClientNo, served: &Served) -> Result<Vec<u
             stamp,
             title,
             content,
-        } => picture_line(alloc, client, *object, *stamp, title, content),
+        } => {
+            let stamp = stamps.shown(*object, *stamp);
+            picture_line(alloc, client, *object, stamp, title, content)
+        }
         Served::Group {
             object,
             stamp,
             members,
-        } => json_line(
-            alloc,
-            group_served(alloc, client, *object, *stamp, members.as_slice()),
-        ),
+        } => {
+            let stamp = stamps.shown(*object, *stamp);
+            let served = group_served(alloc, client, *object, stamp, members.as_slice());
+            json_line(alloc, served)
+        }
         Served::Entries {
             object,
+            of,
             stamp,
             list,
-        } => json_line(
-            alloc,
-            entries_served(alloc, client, *object, *stamp, list.entries()),
-        ),
+        } => {
+            let stamp = stamps.shown(*of, *stamp);
+            let served = entries_served(alloc, client, *object, stamp, list.entries());
+            json_line(alloc, served)
+        }
         Served::Listed { album, stamp, rows } => {
-            json_line(
-                alloc,
-                listed_json(alloc, client, *album, *stamp, rows.as_slice()),
-            )
+            let stamp = stamps.shown(*album, *stamp);
+            let served = listed_json(alloc, client, *album, stamp, rows.as_slice());
+            json_line(alloc, served)
         }
     }
 }

@@ -23,12 +23,13 @@ pub fn is_spellable(value: &Value) -> bool
     passes(value)
 }
 
-/// Whether the item with this first value has a line in an opening that is read back.
-pub fn is_spellable_first_value(item: ItemId, value: &Value) -> bool
+/// Whether the item with this first value, of any stamp, has a line in an opening that is read back.
+pub fn is_spellable_first_value(item: ItemId, stamp: Stamp, value: &Value) -> bool
     ensures test { result ≡ is_spellable value.now }
-    ensures spellable { IsTrue result → IsSpellableLine (OpeningLine.Item item value.now) }
+    ensures spellable { IsTrue result → IsSpellableLine (OpeningLine.Item item stamp value.now) }
 {
     item_fits(item);
+    let _value = stamp.value();
     is_spellable(value)
 }
 

@@ -78,6 +78,7 @@ opening_with checked limit =
           ∷ (list 0, value.List open_list)
           ∷ (list 1, value.List open_list)
           ∷ [];
+      stamps = [];
     }
 
 abbrev opening : ℕ → Opening

@@ -1,13 +1,13 @@
 //! Where an opening as a whole is none: the line, and its part. The header is tested first. In a first epoch it is then
 //! how many items there are, then each item by itself, and then the items together; in a later one whether the items
-//! rise, then whether each has a value of its kind, and then their numbers.
+//! rise, then whether each has a value of its kind, and then their numbers. Last come the stamps.
 use album_access::AceFlags;
 use album_explain::Found;
 use album_items::{ItemId, Opening, Value, has_own_value};
 use album_lists::Ace;
 use album_stamps::{
     CLIENTS, MAX_CHILDREN, MAX_COUNTER, MAX_MARKS, MAX_OPENING_ITEMS, MAX_OPENING_NUMBER,
-    MAX_PARTS, MIN_MARKS,
+    MAX_PARTS, MIN_MARKS, Stamp,
 };
 use bitflags::Flags;
 use std::alloc::{AllocError, Global};
@@ -23,9 +23,43 @@ pub(crate) fn bad_opening(
         return at_line(alloc, header_line, part, Some(value));
     }
     let rows = opening.items.as_slice();
-    if opening.first > 0 {
-        return bad_later(alloc, opening.first, rows, lines);
+    let greatest = opening
+        .first
+        .saturating_mul(CLIENTS)
+        .saturating_add(MAX_OPENING_NUMBER);
+    let found = if opening.first > 0 {
+        bad_later(alloc, greatest, rows, lines)?
+    } else {
+        bad_first(alloc, rows, lines)?
+    };
+    match found {
+        Some(found) => Ok(Some(found)),
+        None => bad_stamp(alloc, greatest, opening, lines),
     }
+}
+
+/// The first item that has a stamp which no epoch before gave.
+fn bad_stamp(
+    alloc: Global,
+    greatest: u64,
+    opening: &Opening,
+    lines: &[u64],
+) -> Result<Option<Found>, AllocError> {
+    for (index, row) in opening.items.as_slice().iter().enumerate() {
+        let stamp = opening.stamps.shown(row.0, Stamp::zero()).value();
+        if stamp > greatest {
+            return at_line(alloc, line_of(lines, index), "stamp", Some(stamp));
+        }
+    }
+    Ok(None)
+}
+
+/// What is wrong with the items of a first epoch: there are too many, or one by itself is wrong, or two together.
+fn bad_first(
+    alloc: Global,
+    rows: &[(ItemId, Value)],
+    lines: &[u64],
+) -> Result<Option<Found>, AllocError> {
     if rows.len() > MAX_OPENING_ITEMS {
         let at = format!(in alloc; "line {}", line_of(lines, MAX_OPENING_ITEMS))?;
         return Ok(Some(Found { at, value: None }));
@@ -75,7 +109,7 @@ fn bad_header(opening: &Opening) -> Option<(&'static str, u64)> {
 /// or names a number that no stamp of the epochs before had.
 fn bad_later(
     alloc: Global,
-    first: u64,
+    greatest: u64,
     rows: &[(ItemId, Value)],
     lines: &[u64],
 ) -> Result<Option<Found>, AllocError> {
@@ -89,9 +123,6 @@ fn bad_later(
             return at_line(alloc, line_of(lines, index), "value", None);
         }
     }
-    let greatest = first
-        .saturating_mul(CLIENTS)
-        .saturating_add(MAX_OPENING_NUMBER);
     for (index, row) in rows.iter().enumerate() {
         let line = line_of(lines, index);
         if row.0.number() > greatest {

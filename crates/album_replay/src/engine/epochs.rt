@@ -91,11 +91,11 @@ impl Epoch {
             (LeavesOf fault (PrintsLine self.old past (said line.now)))
             (W.contents writer.old) (W.contents writer.new)) }
     {
-        let (trace, world) = (self.trace, &mut self.world);
+        let (trace, stamps, world) = (self.trace, &self.opening.stamps, &mut self.world);
         match event_line(alloc, scratch, line) {
-            Ok(Spelled::One(event)) => run_one(alloc, trace, world, event, writer),
+            Ok(Spelled::One(event)) => run_one(alloc, trace, stamps, world, event, writer),
             Ok(Spelled::Range(first, last)) => {
-                deliver_range(alloc, trace, world, first, last, writer)
+                deliver_range(alloc, trace, stamps, world, first, last, writer)
             }
             Ok(Spelled::Restart) => self.restart(alloc, writer),
             Err(refusal) => write_refused(alloc, refusal, writer),

@@ -9,16 +9,18 @@ ghost use Rattle.album_world.specs.Past.{Past};
 ghost use Rattle.album_wire.specs.EventLine.{deliveries};
 ghost use Rattle.album_lines.specs.Lines.{said};
 ghost use Rattle.album_wire.specs.OutJson.{out_line};
-ghost use Rattle.album_replay.specs.Replay.{Happens, Delivers, delivery_text, event_text, text_in, event_line_read, message_shown, outputs_text};
+ghost use Rattle.album_wire.specs.ShownStamps.{out_shown};
+ghost use Rattle.album_replay.specs.Replay.{Happens, Delivers, delivery_text, event_text, text_in, event_line_read, message_shown, outputs_text, showing};
 ghost use Rattle.album_replay.specs.Epochs.{HasLed, Leads, MayLead};
 ghost use Rattle.album_judge.specs.Writes.{Writes, LeavesOf};
 
 use album_calls::Message;
+use album_items::FirstStamps;
 use album_judge::{Fault, write_refused, write_text};
 use album_lines::LineIn;
 use album_permits::{Event, Out};
 use album_stamps::Refusal;
-use album_wire::{Spelled, read_event, write_out};
+use album_wire::{Spelled, read_event, write_shown_out};
 use album_world::World;
 use json::Scratch;
 use std::alloc::Global;
@@ -39,43 +41,49 @@ pub(crate) fn event_line(
 pub(crate) fn run_one<W: Write>(
     alloc: Global,
     trace: bool,
+    stamps: &FirstStamps,
     world: &mut World,
     event: Event,
     writer: &mut W,
 ) -> Result<(), Fault>
     ensures ok { OnOk result ((past : Past) → Writes
-        (Leads (λ before. Happens event_text world.old.terms trace before event) world.old world.new past)
+        (Leads (λ before. Happens event_text world.old.terms (showing trace stamps.now) before event)
+        world.old world.new past)
         (W.contents writer.old) (W.contents writer.new)) }
     ensures fault { IfErr result (λ fault. (past : Past) → Writes
-        (LeavesOf fault (MayLead (λ before. Happens event_text world.old.terms trace before event) world.old past))
+        (LeavesOf fault
+        (MayLead (λ before. Happens event_text world.old.terms (showing trace stamps.now) before event) world.old past))
         (W.contents writer.old) (W.contents writer.new)) }
     ensures terms { world.new.terms ≡ world.old.terms }
     ensures led { (opening : Opening) → HasLed opening world.old → HasLed opening world.new }
 {
-    run_event(alloc, trace, false, world, &event, writer)
+    run_event(alloc, trace, stamps, false, world, &event, writer)
 }
 
 /// Runs the event, and writes its outputs, or why it is refused. Of one in a range that is written only for memory.
 fn run_event<W: Write>(
     alloc: Global,
     trace: bool,
+    stamps: &FirstStamps,
     in_range: bool,
     world: &mut World,
     event: &Event,
     writer: &mut W,
 ) -> Result<(), Fault>
     ensures ok { OnOk result ((past : Past) → Writes
-        (Leads (λ before. Happens (text_in in_range) world.old.terms trace before event.now) world.old world.new past)
+        (Leads (λ before. Happens (text_in in_range) world.old.terms (showing trace stamps.now) before event.now)
+        world.old world.new past)
         (W.contents writer.old) (W.contents writer.new)) }
     ensures fault { IfErr result (λ fault. (past : Past) → Writes
         (LeavesOf fault
-        (MayLead (λ before. Happens (text_in in_range) world.old.terms trace before event.now) world.old past))
+        (MayLead (λ before. Happens (text_in in_range) world.old.terms (showing trace stamps.now) before event.now)
+        world.old past))
         (W.contents writer.old) (W.contents writer.new)) }
     ensures terms { world.new.terms ≡ world.old.terms }
     ensures led { (opening : Opening) → HasLed opening world.old → HasLed opening world.new }
 {
     match world.step(event) {
-        Ok(outs) => write_outputs(alloc, trace, world, &outs, writer),
+        Ok(outs) => write_outputs(alloc, trace, stamps, world, &outs, writer),
         Err(refusal) => {
             if is_printed(in_range, refusal) {
                 return write_refused(alloc, refusal, writer);
@@ -96,17 +104,20 @@ fn is_printed(in_range: bool, refusal: Refusal) -> bool
 pub(crate) fn deliver_range<W: Write>(
     alloc: Global,
     trace: bool,
+    stamps: &FirstStamps,
     world: &mut World,
     first: u64,
     last: u64,
     writer: &mut W,
 ) -> Result<(), Fault>
     ensures ok { OnOk result ((past : Past) → Writes
-        (Leads (λ before. Delivers world.old.terms trace before (deliveries first last)) world.old world.new past)
+        (Leads (λ before. Delivers world.old.terms (showing trace stamps.now) before (deliveries first last))
+        world.old world.new past)
         (W.contents writer.old) (W.contents writer.new)) }
     ensures fault { IfErr result (λ fault. (past : Past) → Writes
         (LeavesOf fault
-        (MayLead (λ before. Delivers world.old.terms trace before (deliveries first last)) world.old past))
+        (MayLead (λ before. Delivers world.old.terms (showing trace stamps.now) before (deliveries first last))
+        world.old past))
         (W.contents writer.old) (W.contents writer.new)) }
     ensures terms { world.new.terms ≡ world.old.terms }
     ensures led { (opening : Opening) → HasLed opening world.old → HasLed opening world.new }
@@ -115,49 +126,61 @@ pub(crate) fn deliver_range<W: Write>(
         return Ok(());
     }
     for number in first..last {
-        deliver(alloc, trace, world, number, writer)?;
+        deliver(alloc, trace, stamps, world, number, writer)?;
     }
-    deliver(alloc, trace, world, last, writer)
+    deliver(alloc, trace, stamps, world, last, writer)
 }
 
 /// Gives the message of this number to whom it is sent.
 fn deliver<W: Write>(
     alloc: Global,
     trace: bool,
+    stamps: &FirstStamps,
     world: &mut World,
     number: u64,
     writer: &mut W,
 ) -> Result<(), Fault>
     ensures ok { OnOk result ((past : Past) → Writes
-        (Leads (λ before. Happens delivery_text world.old.terms trace before (Event.Deliver number))
+        (Leads
+        (λ before. Happens delivery_text world.old.terms (showing trace stamps.now) before (Event.Deliver number))
         world.old world.new past)
         (W.contents writer.old) (W.contents writer.new)) }
     ensures fault { IfErr result (λ fault. (past : Past) → Writes
-        (LeavesOf fault (MayLead (λ before. Happens delivery_text world.old.terms trace before (Event.Deliver number))
+        (LeavesOf fault (MayLead
+        (λ before. Happens delivery_text world.old.terms (showing trace stamps.now) before (Event.Deliver number))
         world.old past))
         (W.contents writer.old) (W.contents writer.new)) }
     ensures terms { world.new.terms ≡ world.old.terms }
     ensures led { (opening : Opening) → HasLed opening world.old → HasLed opening world.new }
 {
-    run_event(alloc, trace, true, world, &Event::Deliver(number), writer)
+    run_event(
+        alloc,
+        trace,
+        stamps,
+        true,
+        world,
+        &Event::Deliver(number),
+        writer,
+    )
 }
 
 /// Writes the outputs, line by line.
 fn write_outputs<W: Write>(
     alloc: Global,
     trace: bool,
+    stamps: &FirstStamps,
     world: &World,
     outs: &[Out],
     writer: &mut W,
 ) -> Result<(), Fault>
     ensures ok { OnOk result (Appends (W.contents writer.old) (W.contents writer.new)
-        (outputs_text trace world.now.kept outs.now)) }
+        (outputs_text (showing trace stamps.now) world.now.kept outs.now)) }
     ensures fault { IfErr result (λ fault. Writes
-        (LeavesOf fault (λ whole. whole ≡ outputs_text trace world.now.kept outs.now))
+        (LeavesOf fault (λ whole. whole ≡ outputs_text (showing trace stamps.now) world.now.kept outs.now))
         (W.contents writer.old) (W.contents writer.new)) }
 {
     for out in outs {
-        write_output(alloc, trace, world, out, writer)?;
+        write_output(alloc, trace, stamps, world, out, writer)?;
     }
     Ok(())
 }
@@ -166,17 +189,19 @@ fn write_outputs<W: Write>(
 fn write_output<W: Write>(
     alloc: Global,
     trace: bool,
+    stamps: &FirstStamps,
     world: &World,
     out: &Out,
     writer: &mut W,
 ) -> Result<(), Fault>
     ensures ok { OnOk result (Appends (W.contents writer.old) (W.contents writer.new)
-        (out_line out.now (message_shown trace world.now.kept out.now))) }
+        (out_line (out_shown stamps.now out.now) (message_shown trace world.now.kept out.now))) }
     ensures fault { IfErr result (λ fault.
-        Writes (LeavesOf fault (λ whole. whole ≡ out_line out.now (message_shown trace world.now.kept out.now)))
+        Writes (LeavesOf fault (λ whole.
+        whole ≡ out_line (out_shown stamps.now out.now) (message_shown trace world.now.kept out.now)))
         (W.contents writer.old) (W.contents writer.new)) }
 {
-    let text = write_out(alloc, out, message_shown(trace, world, out))?;
+    let text = write_shown_out(alloc, stamps, out, message_shown(trace, world, out))?;
     write_text(writer, &text)
 }
 

@@ -7,17 +7,17 @@ ghost use Rattle.std.specs.Prelude.{◌≡◌, ◌≢◌, [], IfErr, OnErr, OnOk
 ghost use Rattle.std.specs.Io.KnownBytes.{Appends};
 ghost use Rattle.album_lines.specs.Lines.{said};
 ghost use Rattle.album_world.specs.Past.{Past};
-ghost use Rattle.album_replay.specs.Replay.{Prints, Step, begun, end_text, opening_of};
+ghost use Rattle.album_wire.specs.FirstValues.{opening_of};
+ghost use Rattle.album_replay.specs.Replay.{Prints, Step, begun, end_text};
 ghost use Rattle.album_replay.specs.Stages.{GoesOn, Opens, Steps, stage_of, step_by, no_past, is_over};
 ghost use Rattle.album_judge.specs.Writes.{Writes, LeavesOf};
 
 use crate::engine::epochs::Epoch;
-use crate::openings::{SoFar, first_line, later_line, opening_of};
-use album_items::{ItemId, Value};
+use crate::openings::{SoFar, first_line, later_line};
 use album_judge::{Fault, write_refused};
 use album_lines::LineIn;
 use album_stamps::Refusal;
-use album_wire::Header;
+use album_wire::{FirstValues, Header};
 use json::Scratch;
 use std::alloc::Global;
 use std::io::Write;
@@ -29,7 +29,7 @@ pub(crate) enum Stage {
     /// Nothing is opened yet.
     Unopened,
     /// The world is being opened, with these items so far.
-    BeingOpened(Header, Vec<(ItemId, Value)>),
+    BeingOpened(Header, FirstValues),
     /// The world of an epoch runs.
     Running(Epoch),
     /// The opening was refused.
@@ -59,9 +59,9 @@ impl Stage {
                 let next = stage_after(alloc, first_line(alloc, scratch, line));
                 self.go_on(alloc, next, writer)
             }
-            Stage::BeingOpened(header, rows) => {
-                let rows = mem::replace(rows, Vec::new(alloc));
-                let next = stage_after(alloc, later_line(alloc, scratch, *header, rows, line));
+            Stage::BeingOpened(header, values) => {
+                let values = mem::replace(values, FirstValues::new(alloc));
+                let next = stage_after(alloc, later_line(alloc, scratch, *header, values, line));
                 self.go_on(alloc, next, writer)
             }
             Stage::Running(epoch) => epoch.take(alloc, scratch, line, writer),
@@ -124,17 +124,17 @@ fn stage_after(alloc: Global, so_far: Result<SoFar, Refusal>) -> Result<Stage, R
     ensures { (says : Step) → GoesOn says so_far → Opens says result }
 {
     match so_far? {
-        SoFar::More(header, rows) => Ok(Stage::BeingOpened(header, rows)),
-        SoFar::Whole(header, rows) => begin(alloc, header, rows),
+        SoFar::More(header, values) => Ok(Stage::BeingOpened(header, values)),
+        SoFar::Whole(header, values) => begin(alloc, header, values),
     }
 }
 
 /// The first epoch begins, where its world may open.
 #[tactic(auto, using(crate::proofs::Standing::world_opens, crate::proofs::Standing::world_refused))]
-fn begin(alloc: Global, header: Header, rows: Vec<(ItemId, Value)>) -> Result<Stage, Refusal>
-    ensures { Opens (begun (opening_of header rows.items) header.trace) result }
+fn begin(alloc: Global, header: Header, values: FirstValues) -> Result<Stage, Refusal>
+    ensures { Opens (begun (opening_of header values) header.trace) result }
 {
     let trace = header.trace;
-    let epoch = Epoch::first(alloc, opening_of(header, rows), trace)?;
+    let epoch = Epoch::first(alloc, values.into_opening(header), trace)?;
     Ok(Stage::Running(epoch))
 }

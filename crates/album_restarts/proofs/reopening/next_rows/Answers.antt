@@ -1,7 +1,9 @@
 use Rattle.std.proofs.Common.{◌≡◌, ◌<◌, List, length, take, ap, sym, ◌∙◌, arith}
 use Rattle.std.specs.Borrow.{Bor}
+use Rattle.album_items.specs.FirstStamps.{Stamps}
+use Rattle.album_items.specs.Openings.{Row}
 use Rattle.album_partition.specs.declared.marks.Mark.{Mark}
-use Rattle.album_epochs.specs.Folding.{histories_lent}
+use Rattle.album_epochs.specs.Folding.{histories_lent, AreFolded, AreFoldedStamps}
 use Rattle.album_restarts.specs.Worlds.{histories_of}
 use Rattle.album_restarts.proofs.ReopenLemmas.{kept_parts, one_more, there_is, fits, folded}
 use Rattle.album_restarts.proofs.reopening.next_rows.Goals as goal
@@ -28,5 +30,15 @@ pub returns-clause-folded : goal.returns-clause-folded
 returns-clause-folded c =
     let lent : histories_lent c.deref.result.now ≡ take c.loop-number.number (histories_of c.args.world.now.kept.partitions) =
     ap (λ (hs : List (Bor (List Mark))). histories_lent hs) c.deref.ensures.value ∙ c.loop-number.invariant in
-    folded c.args.opening.now c.args.world.now c.loop-number.number c.as_slice.result.now c.deref.result.now c.fold.result c.requires
+    folded (λ first histories (fold : List Row × Stamps). AreFolded first histories fold.0) c.args.opening.now c.args.world.now
+    c.loop-number.number c.as_slice.result.now c.deref.result.now c.fold.result c.requires
     c.loop-number-test.false lent c.as_slice.ensures c.fold.ensures.folded
+
+pub returns-clause-stamped : goal.returns-clause-stamped
+returns-clause-stamped c =
+    let lent : histories_lent c.deref.result.now ≡ take c.loop-number.number (histories_of c.args.world.now.kept.partitions) =
+    ap (λ (hs : List (Bor (List Mark))). histories_lent hs) c.deref.ensures.value ∙ c.loop-number.invariant in
+    folded (λ first histories (fold : List Row × Stamps). AreFoldedStamps c.args.opening.now.stamps first histories fold.1)
+    c.args.opening.now c.args.world.now
+    c.loop-number.number c.as_slice.result.now c.deref.result.now c.fold.result c.requires
+    c.loop-number-test.false lent c.as_slice.ensures c.fold.ensures.stamped

@@ -69,3 +69,19 @@ returns-clause-begin c = refl
 pub returns-clause-no_begin : goal.returns-clause-no_begin
 unfolding lines_on_literals
 returns-clause-no_begin c = refl
+
+pub returns-clause-of_an_epoch_before : goal.returns-clause-of_an_epoch_before
+unfolding lines_on_literals
+returns-clause-of_an_epoch_before c = refl
+
+pub returns-clause-of_none : goal.returns-clause-of_none
+unfolding lines_on_literals
+returns-clause-of_none c = refl
+
+pub returns-clause-no_stamp : goal.returns-clause-no_stamp
+unfolding lines_on_literals
+returns-clause-no_stamp c = refl
+
+pub returns-clause-stamp_of_nothing : goal.returns-clause-stamp_of_nothing
+unfolding lines_on_literals
+returns-clause-stamp_of_nothing c = refl

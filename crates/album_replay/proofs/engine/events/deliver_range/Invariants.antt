@@ -1,7 +1,7 @@
 use Rattle.std.proofs.Common.{◌≡◌, ◌≤◌}
 use Rattle.album_items.specs.declared.openings.Opening.{Opening}
 use Rattle.album_world.specs.Past.{Past}
-use Rattle.album_replay.specs.Replay.{Delivers}
+use Rattle.album_replay.specs.Replay.{Delivers, showing}
 use Rattle.album_replay.specs.Epochs.{HasLed, Leads}
 use Rattle.album_judge.specs.Writes.{Writes}
 use Rattle.album_replay.proofs.Happening.{before_number}
@@ -15,6 +15,6 @@ invariant-loop-number g l = record {
   led : (o : Opening) → HasLed o l.initial.world → HasLed o l.world;
   written :
       (past : Past)
-      → Writes (Leads (λ before. Delivers l.initial.world.terms l.trace before (before_number l.first l.number)) l.initial.world l.world past)
+      → Writes (Leads (λ before. Delivers l.initial.world.terms (showing l.trace l.stamps) before (before_number l.first l.number)) l.initial.world l.world past)
       (g.W.Write.contents l.initial.writer) (g.W.Write.contents l.writer);
 }

@@ -35,9 +35,9 @@ pub returns-in-BeingOpened-clause-ok : goal.returns-in-BeingOpened-clause-ok
 returns-in-BeingOpened-clause-ok g c =
     let line = said c.args.line.now in
     let is = sym c.is_blank.ensures ∙ c.if-is_blank.false in
-    let old = BeingOpened c.in-BeingOpened.header c.in-BeingOpened.rows.items in
-    let goes_on = rw c.replace-rows.ensures.value at c.later_line.ensures in
-    let says = opened_by (later_line c.in-BeingOpened.header c.in-BeingOpened.rows.items) (opening_line_read line) in
+    let old = BeingOpened c.in-BeingOpened.header c.in-BeingOpened.values in
+    let goes_on = rw c.replace-values.ensures.value at c.later_line.ensures in
+    let says = opened_by (later_line c.in-BeingOpened.header c.in-BeingOpened.values) (opening_line_read line) in
     on_ok_weaker c.go_on-in-BeingOpened.result
     (λ w past. rw c.in-BeingOpened.is (opening_taken old line says (λ step h. h) is c.stage_after-next-in-BeingOpened.result (c.stage_after-next-in-BeingOpened.ensures says goes_on)
     c.go_on-in-BeingOpened.new.self _ _ c.go_on-in-BeingOpened.ensures.stage w))
@@ -47,9 +47,9 @@ pub returns-in-BeingOpened-clause-fault : goal.returns-in-BeingOpened-clause-fau
 returns-in-BeingOpened-clause-fault g c =
     let line = said c.args.line.now in
     let is = sym c.is_blank.ensures ∙ c.if-is_blank.false in
-    let old = BeingOpened c.in-BeingOpened.header c.in-BeingOpened.rows.items in
-    let goes_on = rw c.replace-rows.ensures.value at c.later_line.ensures in
-    let says = opened_by (later_line c.in-BeingOpened.header c.in-BeingOpened.rows.items) (opening_line_read line) in
+    let old = BeingOpened c.in-BeingOpened.header c.in-BeingOpened.values in
+    let goes_on = rw c.replace-values.ensures.value at c.later_line.ensures in
+    let says = opened_by (later_line c.in-BeingOpened.header c.in-BeingOpened.values) (opening_line_read line) in
     IfErr-weaker c.go_on-in-BeingOpened.result _ _
     (λ fault w past. rw c.in-BeingOpened.is (opening_left old line says (λ step h. h) is c.stage_after-next-in-BeingOpened.result (c.stage_after-next-in-BeingOpened.ensures says goes_on) fault _ _ w))
     c.go_on-in-BeingOpened.ensures.fault
