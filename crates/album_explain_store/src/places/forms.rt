@@ -11,10 +11,7 @@ use std::alloc::{AllocError, Global};
 
 impl Form {
     pub(crate) fn may_be_left_out(&self) -> bool {
-        matches!(
-            self,
-            Form::PerhapsWhole | Form::PerhapsTruth | Form::PerhapsStamp
-        )
+        matches!(self, Form::PerhapsWhole | Form::PerhapsTruth)
     }
 }
 
@@ -62,7 +59,7 @@ fn has_form(form: Form, value: &Value<'_>) -> bool {
         Form::Home => is_nothing(value) || whole(value).is_ok(),
         Form::Client => small(value).is_some_and(|number| ClientNo::of(number).is_some()),
         Form::Part => small(value).is_some(),
-        Form::Stamp | Form::PerhapsStamp => is_stamp(value),
+        Form::Stamp => is_stamp(value),
         Form::Item => item_in(value).is_some(),
         Form::Children | Form::Members | Form::Entries | Form::Lists | Form::Memberships => is_list(
             value,

@@ -25,8 +25,6 @@ pub(crate) enum Form {
     PerhapsWhole,
     /// True or false, which may be left out.
     PerhapsTruth,
-    /// A stamp that may be left out.
-    PerhapsStamp,
     /// True.
     True,
     /// A number, or null.
@@ -176,12 +174,13 @@ const SET_MEMBERS: Rows = &[
 pub(crate) fn parts_of(table: Table, line: &Value<'_>) -> Parts {
     match table {
         Table::Opening if has(line, "open") => &[("open", Part::Open)],
+        Table::Opening if has(line, "item") && has(line, "stamp") => &[
+            ("item", Part::Plain(Form::Item)),
+            ("stamp", Part::Plain(Form::Stamp)),
+            ("value", Part::Value),
+        ],
         Table::Opening if has(line, "item") => {
-            &[
-                ("item", Part::Plain(Form::Item)),
-                ("stamp", Part::Plain(Form::PerhapsStamp)),
-                ("value", Part::Value),
-            ]
+            &[("item", Part::Plain(Form::Item)), ("value", Part::Value)]
         }
         Table::Opening => &[("begin", Part::Plain(Form::True))],
         Table::Event if has(line, "ask") => &[
