@@ -44,6 +44,41 @@ pub fn ask<R: Read, W: Write, S: Read + Write>(
     client.pass_all_on(requests, writer)
 }
 
+/// Says who the principal is, asks for all that the service has, and writes that: the lines of an opening. Returns
+/// whether they have all come. Where the service refuses the principal or the dump, the refusal is written.
+///
+/// # Errors
+///
+/// As `ask`.
+pub fn dump<W: Write, S: Read + Write>(
+    alloc: Global,
+    writer: &mut W,
+    service: &mut S,
+    asking: Asking<'_>,
+) -> Result<bool, Fault> {
+    let mut client = Client::new(alloc, service, asking);
+    if !client.say_hello(writer)? {
+        return Ok(false);
+    }
+    let Some(answer) = client.answer(b"{\"dump\":true}\n")? else {
+        return Ok(false);
+    };
+    match lines_behind(&answer) {
+        Some(count) => client.pass_back(writer, count),
+        None => {
+            write_text(writer, &answer)?;
+            Ok(false)
+        }
+    }
+}
+
+/// How many lines follow the answer, where it is that to a dump.
+fn lines_behind(answer: &[u8]) -> Option<u64> {
+    let line = std::str::from_utf8(answer).ok()?;
+    let count = line.strip_prefix("{\"answer\":\"dump\",\"lines\":")?;
+    count.strip_suffix("}\n")?.parse::<u64>().ok()
+}
+
 /// Whether the line is a refusal. (A hello has a key `answer`.)
 fn is_refusal(answer: &[u8]) -> bool {
     !answer.starts_with(b"{\"answer\":")
@@ -165,6 +200,21 @@ impl<'a, S: Read + Write> Client<'a, S> {
             return Ok(false);
         };
         self.write_answer(writer, request, &answer)?;
+        match lines_behind(&answer) {
+            Some(count) => self.pass_back(writer, count),
+            None => Ok(true),
+        }
+    }
+
+    /// Writes the next lines of the service, so many. Returns whether they have come.
+    fn pass_back<W: Write>(&mut self, writer: &mut W, count: u64) -> Result<bool, Fault> {
+        for _line in 0..count {
+            let Some(line) = self.next_line()? else {
+                return Ok(false);
+            };
+            write_text(writer, &line)?;
+        }
+        writer.flush().map_err(|_| Fault::Writing)?;
         Ok(true)
     }
 
@@ -187,6 +237,11 @@ impl<'a, S: Read + Write> Client<'a, S> {
     fn answer(&mut self, line: &[u8]) -> Result<Option<Vec<u8>>, Fault> {
         write_text(self.service, line)?;
         self.service.flush().map_err(|_| Fault::Writing)?;
+        self.next_line()
+    }
+
+    /// The next line of the service, with its end. None, where the connection ends before.
+    fn next_line(&mut self) -> Result<Option<Vec<u8>>, Fault> {
         let mut piece = [0u8; PIECE];
         for _turn in 0..self.asking.turns {
             if let Some(line) = self.come.pop_front() {

@@ -14,4 +14,4 @@ mod client;
 mod requests;
 mod spelled;
 
-pub use client::{Asking, ask};
+pub use client::{Asking, ask, dump};

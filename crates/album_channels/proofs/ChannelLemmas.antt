@@ -13,7 +13,7 @@ use Rattle.album_passes.proofs.PrefixLemmas.{longer_cases}
 use Rattle.album_keepers.specs.Controls.{IsUntrimmed, Answers}
 use Rattle.album_keepers.specs.Controls.IsUntrimmed.{Elsewhere, NoRoom}
 use Rattle.album_keepers.specs.declared.control.Control.{Control}
-use Rattle.album_keepers.specs.declared.control.Control.TheVariants.{Pending, Sweep, Trim}
+use Rattle.album_keepers.specs.declared.control.Control.TheVariants.{Pending, History, Sweep, Trim}
 use Rattle.album_keepers.specs.declared.control.ControlAnswer.{ControlAnswer}
 use Rattle.album_keepers.specs.declared.control.ControlAnswer.TheVariants as answer
 use Rattle.album_channels.specs.Channels.{ChannelState, IsLater}
@@ -44,14 +44,22 @@ untrimmed_at limit c d p i same parts _ (NoRoom full) = NoRoom (subst (λ (ms : 
 answers_at : (limit : ℕ) (c d : Cut) (p : ℕ) → prefix_at d p ≡ prefix_at c p → d.parts ≡ c.parts → (q : Control)
     (result : Result ControlAnswer Refusal) → Answers limit c p q result → Answers limit d p q result
 answers_at limit c d p same parts Pending (Ok (answer.Pending stamps)) h = subst (λ (ms : List Mark). ArePending ms stamps) (sym same) h
+answers_at limit c d p same parts Pending (Ok (answer.History made)) h = h
 answers_at limit c d p same parts Pending (Ok answer.Swept) h = h
 answers_at limit c d p same parts Pending (Ok answer.Trimmed) h = h
 answers_at limit c d p same parts Pending (Err why) h = h
+answers_at limit c d p same parts History (Ok (answer.Pending stamps)) h = h
+answers_at limit c d p same parts History (Ok (answer.History made)) h = h ∙ sym same
+answers_at limit c d p same parts History (Ok answer.Swept) h = h
+answers_at limit c d p same parts History (Ok answer.Trimmed) h = h
+answers_at limit c d p same parts History (Err why) h = h
 answers_at limit c d p same parts (Sweep t) (Ok (answer.Pending stamps)) h = h
+answers_at limit c d p same parts (Sweep t) (Ok (answer.History made)) h = h
 answers_at limit c d p same parts (Sweep t) (Ok answer.Trimmed) h = h
 answers_at limit c d p same parts (Sweep t) (Ok answer.Swept) h = subst (λ (ms : List Mark). state_of ms t ≡ state.Pending) (sym same) h
 answers_at limit c d p same parts (Sweep t) (Err why) h = λ n. ((h n).0, subst (λ (ms : List Mark). state_of ms t ≢ state.Pending) (sym same) (h n).1)
 answers_at limit c d p same parts (Trim i) (Ok (answer.Pending stamps)) h = h
+answers_at limit c d p same parts (Trim i) (Ok (answer.History made)) h = h
 answers_at limit c d p same parts (Trim i) (Ok answer.Swept) h = h
 answers_at limit c d p same parts (Trim i) (Ok answer.Trimmed) h = subst (λ (ms : List Mark). floor ms i ≡ latest ms i) (sym same) h
 answers_at limit c d p same parts (Trim i) (Err why) h = λ n. untrimmed_at limit c d p i same parts why (h n)

@@ -24,7 +24,7 @@ pub(crate) fn ask_command<'a>(alloc: Global) -> Result<Command<'a>, AllocError> 
         .arg(text_arg(alloc))
 }
 
-fn as_arg<'a>(alloc: Global) -> Arg<'a> {
+pub(crate) fn as_arg<'a>(alloc: Global) -> Arg<'a> {
     Arg::new(alloc, "as")
         .long("as")
         .value_name("WHO")
@@ -71,7 +71,8 @@ where
     }
 }
 
-fn asked(rt: &impl Eprint, outcome: Result<bool, Fault>) -> ExitCode {
+/// The status of a client whose service has answered all, or hasn't.
+pub(crate) fn asked(rt: &impl Eprint, outcome: Result<bool, Fault>) -> ExitCode {
     match outcome {
         Ok(true) => ExitCode::SUCCESS,
         Ok(false) => {
@@ -83,6 +84,6 @@ fn asked(rt: &impl Eprint, outcome: Result<bool, Fault>) -> ExitCode {
 }
 
 /// The port of 127.0.0.1.
-fn local(port: u16) -> SocketAddr {
+pub(crate) fn local(port: u16) -> SocketAddr {
     SocketAddr::new(IpAddr::V4(Ipv4Addr::new(127, 0, 0, 1)), port)
 }

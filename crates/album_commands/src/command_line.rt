@@ -3,6 +3,7 @@
 
 use crate::asking::{ask_command, ask_service};
 use crate::checking::check_data_command;
+use crate::dumping::{dump_command, dump_service};
 use crate::explaining::{explain_command, explain_lines, flags_command, mask_command, print_bits};
 use crate::judging::{judge_command, judge_lines};
 use crate::replaying::{replay_command, replay_lines};
@@ -42,6 +43,7 @@ fn album_command<'a>(alloc: Global) -> Result<Command<'a>, AllocError> {
     let command = with_subcommand(command, serve_command(alloc));
     let command = with_subcommand(command, check_data_command(alloc));
     let command = with_subcommand(command, ask_command(alloc));
+    let command = with_subcommand(command, dump_command(alloc));
     let command = with_subcommand(command, explain_command(alloc));
     let command = with_subcommand(command, mask_command(alloc));
     with_subcommand(command, flags_command(alloc))
@@ -65,6 +67,7 @@ where
         Some("replay") => replay_lines(rt, alloc, reader, writer, matches),
         Some("explain") => explain_lines(rt, alloc, reader, writer, matches),
         Some("ask") => ask_service(rt, alloc, reader, writer, matches, has_prompt),
+        Some("dump") => dump_service(rt, alloc, writer, matches),
         Some("mask") => print_bits(rt, alloc, writer, matches, "mask"),
         Some("flags") => print_bits(rt, alloc, writer, matches, "flags"),
         // No other command line has matched.

@@ -11,6 +11,7 @@ mod command_line;
 // The subcommands.
 mod asking;
 mod checking;
+mod dumping;
 mod explaining;
 mod judging;
 mod replaying;

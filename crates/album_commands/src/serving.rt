@@ -22,6 +22,7 @@ pub(crate) fn serve_command<'a>(alloc: Global) -> Result<Command<'a>, AllocError
     let command = with_arg(command, grace_arg(alloc));
     let command = with_arg(command, opening_arg(alloc));
     let command = with_arg(command, data_arg(alloc));
+    let command = with_arg(command, epochs_arg(alloc));
     let command = with_arg(command, log_mb_arg(alloc));
     let command = with_arg(command, admin_arg(alloc));
     let command = with_arg(command, stats_arg(alloc));
@@ -83,11 +84,20 @@ fn data_arg<'a>(alloc: Global) -> Arg<'a> {
     )
 }
 
+fn epochs_arg<'a>(alloc: Global) -> Arg<'a> {
+    Arg::new(alloc, "epochs")
+        .long("epochs")
+        .help(
+            "Without --data: nothing is kept on a disk, and epochs turn, so that the service goes on",
+        )
+        .action(ArgAction::SetTrue)
+}
+
 fn log_mb_arg<'a>(alloc: Global) -> Arg<'a> {
     Arg::new(alloc, "log-mb")
         .long("log-mb")
         .value_name("N")
-        .help("With --data: once its log has so many megabytes, the epoch turns")
+        .help("Once the log, or what --epochs keeps, has so many megabytes, the epoch turns")
         .value_parser(value_parser!(u32).range(1..))
         .default_value("64")
 }

@@ -165,6 +165,13 @@ This epoch's log has 17 lines, and the next one would open with 4 items. Where a
 error names the file, the line and its first byte, and the status is 1. Nothing is changed, unless
 --repair-to-line is given. The epoch that is read then stays as it is, as the one before the newest."#;
 
+pub(crate) const DUMP_ABOUT: &str = "Prints all that a running service has, as an opening";
+
+pub(crate) const DUMP_HELP: &str =
+    r#"The service at the port of 127.0.0.1 is asked for what it would leave to its next epoch, which has all
+that was answered committed before. It goes on meanwhile. What is printed is an opening, for album replay or
+album serve --opening. Where the service has admins, --as has to be one of them."#;
+
 pub(crate) const SERVE_ABOUT: &str =
     "Opens a store by the lines of standard input, and answers the requests of connections to a port";
 

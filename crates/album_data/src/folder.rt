@@ -79,6 +79,11 @@ impl Folder {
         Ok(Folder { path, lock })
     }
 
+    /// Its path.
+    pub fn path(&self) -> &str {
+        self.path.as_str()
+    }
+
     /// The number of the newest epoch of which there is an opening. One that was begun and isn't there yet doesn't
     /// count.
     ///

@@ -4,7 +4,7 @@
 //! after a start the opening of the next epoch.
 //!
 //! Read `entries` first: the line of a mark. `file_log` keeps such lines in a file, and `recovery` reads them and folds
-//! them into the next opening, whose lines `opening_text` writes. `folder` has the files.
+//! them into the next opening. `folder` has the files.
 #![tactic(auto)]
 
 // The line of a mark, and the log that keeps such lines.
@@ -12,7 +12,6 @@ mod entries;
 mod file_log;
 
 // What is read at a start, and what is opened on it.
-mod opening_text;
 mod recovery;
 
 // The files of a service.
@@ -25,5 +24,4 @@ pub use entries::{entry_text, read_entry};
 pub use file_log::FileLog;
 pub use folder::{Folder, FolderError};
 pub use laws::what_is_kept_is_read;
-pub use opening_text::text_of_opening;
 pub use recovery::{Unread, next_opening};

@@ -10,18 +10,14 @@ ghost use Rattle.album_data.specs.Texts.{IsLine};
 ghost use Rattle.album_data.specs.Recovery.{AreEntryLines, IsEntryLine, AreLogged, IsOpenedAfter, with_mark, marks_after};
 
 use crate::entries::{is_line, read_entry};
-use album_epochs::fold;
-use album_items::{FirstStamps, ItemId, ItemValues, Opening, Value};
+use album_epochs::{lend, opening_after};
+use album_items::Opening;
 use album_keepers::LogEntry;
 use album_partition::Mark;
-use album_stamps::{MAX_COUNTER, MAX_PARTS, Refusal, Stamp};
+use album_stamps::{MAX_PARTS, Refusal, Stamp};
 use json::Scratch;
 use std::alloc::{AllocError, AllocFailed, Global};
 use std::collections::BTreeSet;
-
-/// Above the greatest counter that a log shows, the next epoch leaves out so many: those whose stamps an epoch may have
-/// drawn, and that no partition had prepared as it ended.
-const MARGIN: u64 = 1 << 24;
 
 /// Why a log's text isn't read.
 #[derive(Clone, Copy, Debug)]
@@ -64,20 +60,13 @@ pub fn next_opening(alloc: Global, opening: &Opening, text: &[u8]) -> Result<Ope
 {
     let parts = parts_of(opening)?;
     let entries = entries_of(alloc, parts, text)?;
-    let greatest = greatest_counter(&entries).max(opening.first);
-    if greatest >= MAX_COUNTER - MARGIN {
-        return Err(Unread::Spent);
+    let histories = histories_of(alloc, parts, &entries)?;
+    let lent = lend(alloc, &histories)?;
+    match opening_after(alloc, opening, greatest_counter(&entries), &lent) {
+        Ok(next) => Ok(next),
+        Err(Refusal::StampsSpent) => Err(Unread::Spent),
+        Err(_) => Err(Unread::OutOfMemory),
     }
-    let (items, stamps) = rows_after(alloc, opening, parts, &entries)?;
-    Ok(Opening {
-        parts: opening.parts,
-        limit: opening.limit,
-        policy: opening.policy,
-        checked: opening.checked,
-        first: greatest + MARGIN,
-        items,
-        stamps,
-    })
 }
 
 /// How many partitions there are, if not too few or too many.
@@ -183,54 +172,6 @@ fn counter_in(mark: &Mark) -> u64
     match mark.stamp() {
         Some(stamp) => stamp.counter(),
         None => 0,
-    }
-}
-
-/// What the entries leave, folded on the rows of the opening and their stamps, which has so many partitions.
-///
-/// # Errors
-///
-/// `OutOfMemory`.
-fn rows_after(
-    alloc: Global,
-    opening: &Opening,
-    parts: u16,
-    entries: &[LogEntry],
-) -> Result<(ItemValues, FirstStamps), Unread>
-    requires some { 1 ≤ parts }
-    requires few { parts ≤ MAX_PARTS }
-    ensures { IfOk result (λ fold. (histories : List (List Made)) × AreLogged parts entries.now histories
-        × (AreFolded opening.now.items histories fold.0
-        × AreFoldedStamps opening.now.stamps opening.now.items histories fold.1)) }
-{
-    let histories = histories_of(alloc, parts, entries)?;
-    folded(alloc, opening.items.as_slice(), &opening.stamps, &histories)
-}
-
-/// These histories, folded on these rows and their stamps.
-///
-/// # Errors
-///
-/// `OutOfMemory`.
-fn folded(
-    alloc: Global,
-    first: &[(ItemId, Value)],
-    stamps: &FirstStamps,
-    histories: &[Vec<Mark>],
-) -> Result<(ItemValues, FirstStamps), Unread>
-    requires some { 1 ≤ length histories.now }
-    requires few { length histories.now ≤ MAX_PARTS }
-    ensures rows { IfOk result (λ fold. AreFolded first.now (map (λ marks. marks.items) histories.now) fold.0) }
-    ensures stamps { IfOk result (λ fold.
-        AreFoldedStamps stamps.now first.now (map (λ marks. marks.items) histories.now) fold.1) }
-{
-    let mut lent = Vec::new(alloc);
-    for marks in histories {
-        lent.push(marks.as_slice())?;
-    }
-    match fold(alloc, first, stamps, &lent) {
-        Ok(fold) => Ok(fold),
-        Err(_) => Err(Unread::OutOfMemory),
     }
 }
 

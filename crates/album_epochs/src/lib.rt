@@ -1,13 +1,14 @@
 //! Epochs: what a run of the store leaves to the next one.
 //!
-//! What comes in: the histories with which an epoch ends. What goes out: the rows with which the next one opens.
+//! What comes in: the histories with which an epoch ends, and its opening. What goes out: the next opening.
 //!
-//! Read specs/Carried.antt first, then `folds` and `laws`.
+//! Read specs/Carried.antt first, then `folds`, `next_opening` and `laws`.
 #![tactic(auto)]
 
-// The rows of the next opening, and above which stamps it draws.
+// The rows of the next opening, above which stamps it draws, and the opening itself.
 mod folds;
 mod greatest;
+mod next_opening;
 
 // What holds of what is carried.
 mod laws;
@@ -19,3 +20,4 @@ pub use laws::{
     no_view_goes_back, stamps_stay, sweeps_decide_so, what_is_carried, what_is_carried_stays,
     what_is_folded_is_carried,
 };
+pub use next_opening::{MARGIN, lend, opening_after};

@@ -22,3 +22,4 @@ no_float_in_taken number taken = go taken.kind
     go kind.Trim = refl
     go kind.Who = refl
     go kind.Pending = refl
+    go kind.Dump = refl

@@ -27,6 +27,7 @@ kind_word kind.Restart = codes "restart"
 kind_word kind.Trim = codes "trim"
 kind_word kind.Who = codes "who"
 kind_word kind.Pending = codes "pending"
+kind_word kind.Dump = codes "dump"
 
 -- as what a line is read
 abbrev pub lines_word : Lines → List ℕ
@@ -47,6 +48,7 @@ is_unchecked kind.Restart = false
 is_unchecked kind.Trim = false
 is_unchecked kind.Who = false
 is_unchecked kind.Pending = false
+is_unchecked kind.Dump = false
 
 -- what it means that a store isn't checked
 abbrev pub unchecked_remark : List ℕ

@@ -56,6 +56,7 @@ abbrev pub kind_of_talk : TalkLine → Kind
 kind_of_talk (line.Ask ask) = kind.Ask
 kind_of_talk (line.Pending part) = kind.Pending
 kind_of_talk (line.Sweep part stamp) = kind.Sweep
+kind_of_talk line.Dump = kind.Dump
 kind_of_talk (line.Trim part item) = kind.Trim
 
 -- a later one

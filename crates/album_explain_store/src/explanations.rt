@@ -39,6 +39,7 @@ pub enum Kind {
     Trim,
     Who,
     Pending,
+    Dump,
 }
 
 /// A line that is taken.
@@ -134,6 +135,7 @@ fn kind_word(kind: Kind) -> &'static str
         Kind::Trim => "trim",
         Kind::Who => "who",
         Kind::Pending => "pending",
+        Kind::Dump => "dump",
     }
 }
 

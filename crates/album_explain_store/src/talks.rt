@@ -91,6 +91,7 @@ fn kind_of_talk(line: &TalkLine) -> Kind
         TalkLine::Ask(_) => Kind::Ask,
         TalkLine::Pending(_) => Kind::Pending,
         TalkLine::Sweep(..) => Kind::Sweep,
+        TalkLine::Dump => Kind::Dump,
         TalkLine::Trim(..) => Kind::Trim,
     }
 }

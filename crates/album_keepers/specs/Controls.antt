@@ -10,7 +10,7 @@ use Rattle.album_partition.specs.declared.marks.Mark.{Mark}
 use Rattle.album_passes.specs.Cuts.{Cut, prefix_at}
 use Rattle.album_passes.specs.Pass.{PassState}
 use Rattle.album_keepers.specs.declared.control.Control.{Control}
-use Rattle.album_keepers.specs.declared.control.Control.TheVariants.{Pending, Sweep, Trim}
+use Rattle.album_keepers.specs.declared.control.Control.TheVariants.{Pending, History, Sweep, Trim}
 use Rattle.album_keepers.specs.declared.control.ControlAnswer.{ControlAnswer}
 use Rattle.album_keepers.specs.declared.control.ControlAnswer.TheVariants as answer
 
@@ -33,14 +33,24 @@ pub record IsControlRequest (table : TableId) (request : ControlRequestState) : 
 -- these are the stamps that are pending
 abbrev pub AnswersPending : List Mark → Result ControlAnswer Refusal → Type 0
 AnswersPending marks (Ok (answer.Pending stamps)) = ArePending marks stamps
+AnswersPending marks (Ok (answer.History made)) = ⊥
 AnswersPending marks (Ok answer.Swept) = ⊥
 AnswersPending marks (Ok answer.Trimmed) = ⊥
 AnswersPending marks (Err why) = why ≡ OutOfMemory
+
+-- these are all marks
+abbrev pub AnswersHistory : List Mark → Result ControlAnswer Refusal → Type 0
+AnswersHistory marks (Ok (answer.History made)) = made.items ≡ marks
+AnswersHistory marks (Ok (answer.Pending stamps)) = ⊥
+AnswersHistory marks (Ok answer.Swept) = ⊥
+AnswersHistory marks (Ok answer.Trimmed) = ⊥
+AnswersHistory marks (Err why) = why ≡ OutOfMemory
 
 -- the stamp is pending, and the others of its partitions were asked; or it is not
 abbrev pub AnswersSwept : List Mark → ℕ → Result ControlAnswer Refusal → Type 0
 AnswersSwept marks stamp (Ok answer.Swept) = state_of marks stamp ≡ state.Pending
 AnswersSwept marks stamp (Ok (answer.Pending stamps)) = ⊥
+AnswersSwept marks stamp (Ok (answer.History made)) = ⊥
 AnswersSwept marks stamp (Ok answer.Trimmed) = ⊥
 AnswersSwept marks stamp (Err why) =
     why ≢ OutOfMemory → (why ≡ NotPrepared) × (state_of marks stamp ≢ state.Pending)
@@ -55,12 +65,14 @@ abbrev pub AnswersTrimmed : ℕ → Cut → ℕ → ℕ → Result ControlAnswer
 AnswersTrimmed limit cut part item (Ok answer.Trimmed) =
     floor (prefix_at cut part) item ≡ latest (prefix_at cut part) item
 AnswersTrimmed limit cut part item (Ok (answer.Pending stamps)) = ⊥
+AnswersTrimmed limit cut part item (Ok (answer.History made)) = ⊥
 AnswersTrimmed limit cut part item (Ok answer.Swept) = ⊥
 AnswersTrimmed limit cut part item (Err why) = why ≢ OutOfMemory → IsUntrimmed limit cut part item why
 
 -- a partition's answer to a control request, at the point of its history that the cut shows
 abbrev pub Answers : ℕ → Cut → ℕ → Control → Result ControlAnswer Refusal → Type 0
 Answers limit cut part Pending result = AnswersPending (prefix_at cut part) result
+Answers limit cut part History result = AnswersHistory (prefix_at cut part) result
 Answers limit cut part (Sweep stamp) result = AnswersSwept (prefix_at cut part) stamp result
 Answers limit cut part (Trim item) result = AnswersTrimmed limit cut part item result
 

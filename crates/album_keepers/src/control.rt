@@ -5,6 +5,7 @@ ghost use Rattle.album_keepers.specs.Controls.{Answers};
 use crate::names::DeskNames;
 use album_calls::Stamps;
 use album_items::ItemId;
+use album_partition::Mark;
 use album_passes::Pass;
 use album_stamps::{ClientNo, Refusal, Stamp};
 use std::marker::{Model, PhantomData};
@@ -14,6 +15,8 @@ use std::marker::{Model, PhantomData};
 pub enum Control {
     /// The stamps that are pending.
     Pending,
+    /// All marks that were made, in order.
+    History,
     /// The partition is to ask the other partitions of the stamp's items whether they have it prepared or committed.
     Sweep(Stamp),
     /// The partition is to drop the item's versions below its latest stamp: garbage collection.
@@ -27,6 +30,7 @@ impl Control {
     {
         match self {
             Control::Pending => matches!(other, Control::Pending),
+            Control::History => matches!(other, Control::History),
             Control::Sweep(stamp) => {
                 matches!(other, Control::Sweep(of) if of.value() == stamp.value())
             }
@@ -40,6 +44,8 @@ impl Control {
 pub enum ControlAnswer {
     /// These stamps are pending, rising.
     Pending(Stamps),
+    /// These marks were made.
+    History(Vec<Mark>),
     /// The stamp is pending, and the other partitions were asked.
     Swept,
     /// The item's versions below its latest stamp are dropped.

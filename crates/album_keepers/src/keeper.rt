@@ -2,11 +2,11 @@
 ghost use Rattle.std.specs.Prelude.{◌≡◌, ◌≢◌, ◌<◌, ◌≤◌, ℕ, false, length, map, take, All, option_map, None, Ok, Err, IfOk, IfErr, IfSome, OnOk, OnErr, IsOkUnless};
 ghost use Rattle.album_items.specs.declared.values.Value.{Value};
 ghost use Rattle.album_partition.specs.Answers.{after, answer};
-ghost use Rattle.album_partition.specs.Marks.{pending_stamps, latest, state_of};
+ghost use Rattle.album_partition.specs.Marks.{pending_stamps, latest, load, state_of};
 ghost use Rattle.album_partition.specs.Partition.{PartitionState};
 ghost use Rattle.album_partition.specs.Sweeps.{swept};
 ghost use Rattle.album_passes.specs.Cuts.{Extends, IsSound, prefix_at};
-ghost use Rattle.album_keepers.specs.Controls.{Answers, AnswersPending, AnswersTrimmed};
+ghost use Rattle.album_keepers.specs.Controls.{Answers, AnswersHistory, AnswersPending, AnswersTrimmed};
 ghost use Rattle.album_keepers.specs.Keepers.{IsKeeper, IsNext};
 ghost use Rattle.album_passes.specs.Reads.{IsCommitted};
 ghost use Rattle.album_keepers.specs.Envelopes.{Shows, IsAnswered};
@@ -19,7 +19,7 @@ use crate::log_entries::LogEntry;
 use crate::names::DeskNames;
 use album_calls::{Body, Message, Node, Reply, Request, Stamps, Vote};
 use album_items::ItemId;
-use album_partition::{Figures, Partition};
+use album_partition::{Figures, Mark, Partition};
 use album_passes::{Desk, Owner, Pass};
 use album_stamps::{Refusal, Stamp};
 use album_terminate::StampState;
@@ -199,6 +199,14 @@ impl<J: DeskNames> PartitionKeeper<J> {
         ensures pending { result.pending ≡ length (pending_stamps self.now.partition.marks) }
     {
         self.partition.figures()
+    }
+
+    /// How many marks it has and will have, and how many it may have.
+    pub(crate) fn load(&self) -> (u64, u64)
+        ensures marks { result.0 ≡ load self.now.partition.marks }
+        ensures limit { result.1 ≡ self.now.partition.limit }
+    {
+        (self.partition.load(), self.partition.limit())
     }
 
     /// Whether a newer version of the item is committed here than the one that the message replies.
@@ -436,6 +444,7 @@ impl<J: DeskNames> PartitionKeeper<J> {
     {
         match control {
             Control::Pending => self.pending(),
+            Control::History => self.history(alloc),
             Control::Trim(item) => self.trim(desk, item),
             Control::Sweep(stamp) => match self.sweep(alloc, desk, stamp) {
                 Err(refusal) => Err(refusal),
@@ -454,6 +463,16 @@ impl<J: DeskNames> PartitionKeeper<J> {
         match self.partition.pending() {
             Ok(stamps) => Ok(ControlAnswer::Pending(Stamps::of(stamps))),
             Err(refusal) => Err(refusal),
+        }
+    }
+
+    /// All marks that were made.
+    fn history(&self, alloc: Global) -> Result<ControlAnswer, Refusal>
+        ensures { AnswersHistory (prefix_at self.now.owner.cut self.now.partition.number) result }
+    {
+        match copies_of(alloc, self.partition.history()) {
+            Ok(marks) => Ok(ControlAnswer::History(marks)),
+            Err(AllocError) => Err(Refusal::OutOfMemory),
         }
     }
 
@@ -493,6 +512,21 @@ impl<J: DeskNames> PartitionKeeper<J> {
             }
         }
     }
+}
+
+/// The same marks once more. They share the memory of the values.
+///
+/// # Errors
+///
+/// `AllocError`.
+fn copies_of(alloc: Global, marks: &[Mark]) -> Result<Vec<Mark>, AllocError>
+    ensures { IfOk result (λ copies. copies.items ≡ marks.now) }
+{
+    let mut copies = Vec::with_capacity(alloc, marks.len())?;
+    for mark in marks {
+        copies.push(mark.copy()?)?;
+    }
+    Ok(copies)
 }
 
 /// The stamp of which the message says that its sender has prepared it: the answer to a Prepare, or a vote.

@@ -30,6 +30,7 @@ mod logger;
 // Its thread: how it waits, what it does, how it starts, and what tests hold it by.
 mod breakage;
 mod gate;
+mod load;
 mod mailbox;
 mod outbox;
 mod start;
@@ -44,6 +45,7 @@ pub use control::{Control, ControlAnswer, ControlReply, ControlRequest};
 pub use envelopes::{ReplyEnvelope, RequestEnvelope};
 pub use gate::{Gate, Open};
 pub use held::HeldMail;
+pub use load::Load;
 pub use log_entries::{LogEntry, MarkLog, NoLog, NotKept};
 pub use mailbox::{Inbox, PartitionMail, SessionMail};
 pub use names::DeskNames;

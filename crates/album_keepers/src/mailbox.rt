@@ -2,6 +2,7 @@
 use crate::breakage::Breakage;
 use crate::control::{ControlReply, ControlRequest};
 use crate::envelopes::{ReplyEnvelope, RequestEnvelope};
+use crate::load::Load;
 use crate::names::DeskNames;
 use album_partition::Figures;
 use crossbeam_channel::{Receiver, RecvTimeoutError, Sender};
@@ -40,6 +41,8 @@ pub enum PartitionMail<J: DeskNames> {
     ControlRequest(Box<ControlRequest<J>, Global>),
     /// Asks for the figures of the partition, which are sent here.
     Figures(Sender<Figures>),
+    /// Asks how much of its epoch the partition has taken up, which is sent here.
+    Load(Sender<Load>),
     /// The session of this number is over.
     Forget(u16),
     /// The service closes.

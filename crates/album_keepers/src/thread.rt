@@ -8,6 +8,7 @@ use crate::envelopes::RequestEnvelope;
 use crate::gate::Gate;
 use crate::held::Outgoing;
 use crate::keeper::PartitionKeeper;
+use crate::load::{Load, bytes_of};
 use crate::mailbox::{Inbox, PartitionMail};
 use crate::names::DeskNames;
 use crate::outbox::Outbox;
@@ -24,6 +25,8 @@ pub(crate) struct PartitionLoop<J: DeskNames> {
     keeper: PartitionKeeper<J>,
     outbox: Outbox<J>,
     messages: u64,
+    /// About how many bytes the writes take that it was asked to prepare.
+    bytes: u64,
     breakage: Arc<Breakage, Global>,
 }
 
@@ -40,6 +43,7 @@ impl<J: DeskNames> PartitionLoop<J> {
             keeper,
             outbox,
             messages: 0,
+            bytes: 0,
             breakage,
         }
     }
@@ -97,6 +101,7 @@ impl<J: DeskNames> PartitionLoop<J> {
             PartitionMail::Forget(client) => self.outbox.forget(client),
             // Whoever wants the figures does without them, where there is no memory to send them.
             PartitionMail::Figures(end) => drop(end.send(rt, self.keeper.figures())),
+            PartitionMail::Load(end) => drop(end.send(rt, self.load())),
             PartitionMail::ControlRequest(request) => {
                 self.inquire(rt, alloc, desk, Box::into_inner(request))?;
             }
@@ -105,6 +110,16 @@ impl<J: DeskNames> PartitionLoop<J> {
             }
         }
         Ok(true)
+    }
+
+    /// How much of its epoch the partition has taken up.
+    fn load(&self) -> Load {
+        let (marks, limit) = self.keeper.load();
+        Load {
+            marks,
+            limit,
+            bytes: self.bytes,
+        }
     }
 
     /// Takes the envelopes of a mail, one after another, and sends the replies to them as one mail. There is room for
@@ -158,6 +173,7 @@ impl<J: DeskNames> PartitionLoop<J> {
     {
         gate.enter(self.part, self.messages);
         self.messages = self.messages.saturating_add(1);
+        self.bytes = self.bytes.saturating_add(bytes_of(envelope.message()));
         let (from, tag) = (envelope.message().from(), envelope.message().tag());
         match self.keeper.receive(desk, envelope) {
             Ok(None) => Ok(()),

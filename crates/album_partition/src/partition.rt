@@ -234,6 +234,20 @@ impl Partition {
         }
     }
 
+    /// How many marks it has, and will have once each stamp that is pending is decided. It isn't counted what it holds.
+    pub fn load(&self) -> u64
+        ensures { result ≡ load self.now.marks }
+    {
+        self.stored.load()
+    }
+
+    /// How many marks it may have.
+    pub fn limit(&self) -> u64
+        ensures { result ≡ self.now.limit }
+    {
+        self.limit
+    }
+
     /// The latest committed stamp of the item.
     pub fn latest(&self, item: ItemId) -> Stamp
         ensures { result ≡ latest self.now.marks item }

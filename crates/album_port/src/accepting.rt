@@ -60,6 +60,8 @@ struct Count {
     until: Option<Instant>,
     is_cut: bool,
     look_at: Option<Instant>,
+    /// How often they were looked for since it began to turn.
+    looks: u32,
     /// Whether it was said that no more are served.
     has_said: bool,
 }
@@ -82,6 +84,7 @@ where
         until: None,
         is_cut: false,
         look_at: None,
+        looks: 0,
         has_said: false,
     };
     for _ in rt.forever() {
@@ -93,8 +96,14 @@ where
             if turn.is_quiet() {
                 return Accepted::Turned;
             }
-            count.await_quiet(&rt, door, &shared.connections);
-            continue;
+            if !count.has_waited() || !shared.journal.is_behind(&rt) {
+                count.await_quiet(&rt, door, &shared.connections);
+                continue;
+            }
+            // The audit file takes nothing, and who noted nothing is not to wait for that.
+            turn.put_off();
+            count.look_at = None;
+            count.looks = 0;
         }
         go_on_all(rt, alloc, service, shared);
         let is_full = is_closed || count.is_full(shared);
@@ -214,6 +223,11 @@ impl Count {
         }
     }
 
+    /// Whether the epoch that turns has waited as long as one client may hold it up.
+    fn has_waited(&self) -> bool {
+        self.looks > 1
+    }
+
     /// The epoch turns, and waits for what is still to be answered, but not for a client that takes no answer.
     fn await_quiet<T: Host>(&mut self, rt: &T, door: &mut Door, connections: &Connections) {
         let now = Instant::now(rt).ok();
@@ -222,6 +236,7 @@ impl Count {
             (Some(until), Some(now)) if now < until => {}
             _ => {
                 connections.cut_stalled(rt);
+                self.looks = self.looks.saturating_add(1);
                 self.look_at = now.and_then(|now| now.checked_add(Duration::from_millis(STALL)));
             }
         }

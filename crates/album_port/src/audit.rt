@@ -122,6 +122,12 @@ impl Pending {
         self.has_failed.load(Ordering::SeqCst)
     }
 
+    /// Whether something that was given isn't written yet.
+    fn is_behind<T: Wait>(&self, rt: &T) -> bool {
+        let waiting = self.waiting.lock(rt);
+        waiting.written < waiting.given
+    }
+
     /// Waits until the notes of the session are written. One that has noted nothing waits for nobody.
     ///
     /// # Errors
@@ -247,6 +253,14 @@ impl<T: Wait + time::Clock> AuditJournal<T> {
     pub(crate) fn has_failed(&self) -> bool {
         match &self.pending {
             Some(pending) => pending.has_failed(),
+            None => false,
+        }
+    }
+
+    /// Whether somebody waits for notes to be written.
+    pub(crate) fn is_behind(&self, rt: &T) -> bool {
+        match &self.pending {
+            Some(pending) => pending.is_behind(rt),
             None => false,
         }
     }

@@ -95,7 +95,7 @@ fn unfit<T: Files>(rt: &T, path: &str, opening: Option<&str>) -> Option<&'static
         return Some("a pipe or a socket is no audit file");
     }
     let other = metadata(rt, opening?).ok()?;
-    if is_same(&found, &other) {
+    if found.is_file() && is_same(&found, &other) {
         return Some("the opening is no audit file");
     }
     None

@@ -375,7 +375,7 @@ where
         &mut to,
         &mut owned.session,
         &shared.connections.admins,
-        &shared.opening.stamps,
+        &shared.epoch,
         &hearing,
         who,
         shared.limits.turns,

@@ -1,5 +1,5 @@
 //! A port that is served from epoch to epoch: its connections stay.
-use crate::accepting::{Accepted, Limits};
+use crate::accepting::Limits;
 use crate::audit::AuditJournal;
 use crate::audit_file::AuditFile;
 use crate::connections::Connections;
@@ -7,12 +7,13 @@ use crate::input::Input;
 use crate::notices::{Notices, Printer};
 use crate::one_epoch::{EpochTerms, serve_opened};
 use crate::port::{Host, Served, Serving, open_by, print, totals_out};
-use crate::turn::LogBound;
+use crate::turn::EpochBound;
 use crate::waker::{Door, Waker};
 use album_audit::Totals;
 use album_items::Opening;
 use album_judge::Fault;
 use album_stamps::Refusal;
+use album_talk::Epoch;
 use album_threads::{MarkLog, Opened};
 use std::alloc::Global;
 use std::io::{Read, Write};
@@ -42,12 +43,13 @@ pub struct Port {
 }
 
 /// How an epoch ends, where there was no fault.
-#[derive(Clone, Copy, Debug)]
+#[derive(Drop)]
 pub enum EpochEnd {
     /// Its connections were served, and the service ends.
     Over,
-    /// The next epoch goes on with the connections that are open.
-    Turned,
+    /// The next epoch goes on with the connections that are open. It begins with this opening, or it isn't known with
+    /// which, and why.
+    Turned(Result<Opening, Refusal>),
     /// The opening was refused, and that is written.
     Refused,
 }
@@ -137,9 +139,10 @@ impl Port {
         Ok(())
     }
 
-    /// Serves an epoch on this opening, with a log that keeps what is prepared before anybody hears of it. It turns
-    /// where a partition has nearly as many marks as it may have, or the log as many bytes. The first says that the
-    /// port is served, and each goes on with the connections that the one before has left.
+    /// Serves an epoch, with a log, if there is one, that keeps what is prepared before anybody hears of
+    /// it. It turns where a partition has nearly as many marks as it may have, or there are as many bytes as the bound
+    /// says. The first says that the port is served, and each goes on with the connections that the one before has
+    /// left.
     ///
     /// # Errors
     ///
@@ -148,9 +151,9 @@ impl Port {
         &mut self,
         rt: T,
         alloc: Global,
-        opening: &Arc<Opening, Global>,
-        log: L,
-        bound: LogBound,
+        epoch: &Arc<Epoch, Global>,
+        log: Option<L>,
+        bound: EpochBound,
         audit: Option<AuditFile>,
         writer: &mut W,
     ) -> Result<EpochEnd, Fault>
@@ -159,14 +162,14 @@ impl Port {
         L: MarkLog + Drop + Send + 'static,
         W: Write,
     {
-        match open_by(&rt, alloc, opening, writer, u16::MAX)? {
+        match open_by(&rt, alloc, &epoch.opening, writer, u16::MAX)? {
             Ok(opened) => {
                 let terms = EpochTerms {
                     journal: self.journal(rt, alloc, audit)?,
                     bound: Some(bound),
-                    opening: Arc::try_clone(opening).map_err(|_| Fault::Memory)?,
+                    epoch: Arc::try_clone(epoch).map_err(|_| Fault::Memory)?,
                 };
-                self.serve(rt, alloc, opened, Some(log), terms, writer)
+                self.serve(rt, alloc, opened, log, terms, writer)
             }
             Err(_) => Ok(EpochEnd::Refused),
         }
@@ -186,7 +189,7 @@ impl Port {
         AuditJournal::open(rt, alloc, self.notices.copy()?, audit)
     }
 
-    /// Serves what was opened. The epoch turns where its log has a bound.
+    /// Serves what was opened. The epoch turns where it has a bound.
     ///
     /// # Errors
     ///
@@ -205,12 +208,9 @@ impl Port {
         L: MarkLog + Drop + Send + 'static,
         W: Write,
     {
-        let (accepted, totals) = serve_opened(rt, alloc, opened, log, self, terms, writer)?;
+        let (ended, totals) = serve_opened(rt, alloc, opened, log, self, terms, writer)?;
         self.totals = sum(self.totals, totals);
-        match accepted {
-            Accepted::All => Ok(EpochEnd::Over),
-            Accepted::Turned => Ok(EpochEnd::Turned),
-        }
+        Ok(ended)
     }
 
     /// The last epoch has ended so. All notices are printed, and then the totals of all epochs, unless there was a
@@ -245,7 +245,7 @@ impl Port {
         printer.close(&rt);
         match ended? {
             EpochEnd::Refused => Ok(Served::Refused),
-            EpochEnd::Over | EpochEnd::Turned => {
+            EpochEnd::Over | EpochEnd::Turned(_) => {
                 print(alloc, &totals_out(totals), writer)?;
                 Ok(Served::Done)
             }

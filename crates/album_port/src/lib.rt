@@ -9,8 +9,8 @@
 //! until it is said who talks. specs/Audits.antt says what the audit file has.
 //!
 //! `serve` ends with its connections; `serve_for` has options; `serve_until` ends with its input; `serve_beside` takes
-//! the opening from another input. A `Port` (`epochs`) is served from epoch to epoch, each with a log: its connections
-//! stay (`turn`), and what they have said before is answered in the next one (`incoming`).
+//! the opening from another input. A `Port` (`epochs`) is served from epoch to epoch, with a log or without: its
+//! connections stay (`turn`), and what they have said before is answered in the next one (`incoming`).
 #![tactic(auto)]
 
 // How a service is opened, and what it prints on standard error.
@@ -45,4 +45,4 @@ pub use audit_file::AuditFile;
 pub use epochs::{EpochEnd, Port};
 pub use opening::opening_of_text;
 pub use port::{Host, Served, Serving, first_opening, serve, serve_beside, serve_for, serve_until};
-pub use turn::LogBound;
+pub use turn::EpochBound;

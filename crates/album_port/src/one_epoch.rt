@@ -8,16 +8,18 @@ ghost use Rattle.album_threads.specs.Opened.{opened_as};
 use crate::accepting::{Accepted, Limits, accept_all};
 use crate::audit::AuditJournal;
 use crate::connections::Connections;
-use crate::epochs::Port;
+use crate::epochs::{EpochEnd, Port};
 use crate::input::Input;
 use crate::port::{Host, print};
-use crate::turn::{LogBound, Turn};
+use crate::turn::{EpochBound, Turn};
 use crate::watch::watch;
 use album_audit::Totals;
 use album_items::Opening;
 use album_judge::Fault;
 use album_stamps::Refusal;
+use album_talk::Epoch;
 use album_threads::{Gauge, MarkLog, Opened, OwnedSession, Service, ServiceNames};
+use album_turns::leave;
 use album_wire::TalkOut;
 use crossbeam_channel::{Receiver, Sender, unbounded};
 use std::alloc::Global;
@@ -32,13 +34,13 @@ use std::thread::{JoinHandle, Threads};
 pub(crate) struct EpochTerms<T: Wait + Copy> {
     /// Writes the notes to the audit file, if there is one.
     pub journal: AuditJournal<T>,
-    /// The epoch turns where its log has a bound.
-    pub bound: Option<LogBound>,
-    /// What it opened on: the stamps that are shown of first values.
-    pub opening: Arc<Opening, Global>,
+    /// The epoch turns where it has a bound.
+    pub bound: Option<EpochBound>,
+    /// What it opened on, and its number.
+    pub epoch: Arc<Epoch, Global>,
 }
 
-/// Serves what was opened, under names of its own. Gives how its connections ended, and the totals of its book.
+/// Serves what was opened, under names of its own. Gives how the epoch ended, and the totals of its book.
 pub(crate) fn serve_opened<T, L, W>(
     rt: T,
     alloc: Global,
@@ -47,7 +49,7 @@ pub(crate) fn serve_opened<T, L, W>(
     port: &mut Port,
     terms: EpochTerms<T>,
     writer: &mut W,
-) -> Result<(Accepted, Totals), Fault>
+) -> Result<(EpochEnd, Totals), Fault>
 where
     T: Host,
     L: MarkLog + Drop + Send + 'static,
@@ -71,7 +73,7 @@ fn serve_all<J, T, L, W>(
     port: &mut Port,
     terms: EpochTerms<T>,
     writer: &mut W,
-) -> Result<(Accepted, Totals), Fault>
+) -> Result<(EpochEnd, Totals), Fault>
 where
     J: ServiceNames + Send + Sync + 'static,
     T: Host,
@@ -81,31 +83,52 @@ where
         J.audit_ok J.audit_failed J.alarm_ok J.alarm_failed }
 {
     let gate = port.waker.copy()?;
+    let epoch = Arc::try_clone(&terms.epoch).map_err(|_| Fault::Memory)?;
     let service = Service::<J>::open_logged(rt, alloc, opened, gate, log)?;
-    let done = say_and_attend(rt, alloc, &service, port, terms, writer);
+    let done = match say_and_attend(rt, alloc, &service, port, terms, writer) {
+        Ok(Accepted::All) => Ok(EpochEnd::Over),
+        Ok(Accepted::Turned) => Ok(EpochEnd::Turned(next(&rt, alloc, &service, &epoch.opening))),
+        Err(fault) => Err(fault),
+    };
     close(&rt, service, done)
 }
 
-/// Closes the service, whose connections have ended so.
+/// The opening with which the next epoch begins. A session of its own finds it: those of the connections have ended.
+///
+/// # Errors
+///
+/// As `Service::session` and `leave`.
+fn next<J: ServiceNames, T: Host>(
+    rt: &T,
+    alloc: Global,
+    service: &Service<J>,
+    opening: &Opening,
+) -> Result<Opening, Refusal> {
+    let mut owned = OwnedSession::begin(rt, service)?;
+    let left = leave(rt, alloc, &mut owned.session, opening)?;
+    Ok(left.into_opening())
+}
+
+/// Closes the service, whose epoch has ended so.
 fn close<J, T>(
     rt: &T,
     service: Service<J>,
-    done: Result<Accepted, Fault>,
-) -> Result<(Accepted, Totals), Fault>
+    done: Result<EpochEnd, Fault>,
+) -> Result<(EpochEnd, Totals), Fault>
 where
     J: ServiceNames + Send + 'static,
     T: Threads + Wait,
 {
     let (is_broken, has_lost_log) = (service.is_broken(), service.has_lost_log());
     let totals = service.close(rt);
-    let accepted = done?;
+    let ended = done?;
     if has_lost_log {
         return Err(Fault::Writing);
     }
     if is_broken {
         return Err(Fault::Memory);
     }
-    Ok((accepted, totals))
+    Ok((ended, totals))
 }
 
 /// Says that the port is served, once, and serves it.
@@ -180,8 +203,8 @@ pub(crate) struct Shared<J: ServiceNames, T: Wait + Copy> {
     pub gauge: Gauge<J>,
     pub connections: Arc<Connections, Global>,
     pub journal: AuditJournal<T>,
-    /// What the epoch opened on: the stamps that are shown of first values.
-    pub opening: Arc<Opening, Global>,
+    /// What the epoch opened on, and its number.
+    pub epoch: Arc<Epoch, Global>,
     pub limits: Limits,
     /// The input, where the service ends with it.
     pub input: Option<Arc<Input, Global>>,
@@ -226,7 +249,7 @@ impl<J: ServiceNames, T: Wait + Copy> Shared<J, T> {
     }
 }
 
-/// Makes what the threads of an epoch share. It turns where its log has a bound.
+/// Makes what the threads of an epoch share. It turns where it has a bound.
 ///
 /// # Errors
 ///
@@ -244,7 +267,7 @@ fn shared_of<J: ServiceNames, T: Wait + Copy>(
     let EpochTerms {
         journal,
         bound,
-        opening,
+        epoch,
     } = terms;
     let turn = match bound {
         Some(bound) => Some(Turn::new(port.waker.copy()?, bound)),
@@ -254,7 +277,7 @@ fn shared_of<J: ServiceNames, T: Wait + Copy>(
         gauge: service.gauge()?,
         connections: Arc::try_clone(&port.connections)?,
         journal,
-        opening,
+        epoch,
         limits: port.limits,
         input,
         stats: port.stats,

@@ -12,7 +12,7 @@ use album_audit::Totals;
 use album_items::Opening;
 use album_judge::{Fault, write_refused, write_text};
 use album_stamps::Refusal;
-use album_talk::Admins;
+use album_talk::{Admins, Epoch};
 use album_threads::{NoLog, Opened};
 use album_wire::{Counted, TalkOut, write_talk};
 use std::alloc::Global;
@@ -186,8 +186,8 @@ where
     serve_begun(rt, alloc, begun, input, writer, serving, audit)
 }
 
-/// The state that was opened, and what it opened on.
-type OpenedOn = (Opened, Arc<Opening, Global>);
+/// The state that was opened, and the epoch.
+type OpenedOn = (Opened, Arc<Epoch, Global>);
 
 /// What was opened, the door at its port, and what wakes who waits there; or how `serve` ends without them.
 type Begun = Result<(OpenedOn, Door, Waker), Served>;
@@ -218,11 +218,16 @@ fn open<T: Host, R: Read, W: Write>(
     sessions: u16,
 ) -> Result<Result<OpenedOn, Served>, Fault> {
     let opening = match first_opening(rt, alloc, reader, writer, turns)? {
-        Ok(opening) => Arc::new(alloc, opening).map_err(|_| Fault::Memory)?,
+        Ok(opening) => opening,
         Err(served) => return Ok(Err(served)),
     };
-    match open_by(rt, alloc, &opening, writer, sessions)? {
-        Ok(opened) => Ok(Ok((opened, opening))),
+    let epoch = Epoch {
+        opening,
+        number: None,
+    };
+    let epoch = Arc::new(alloc, epoch).map_err(|_| Fault::Memory)?;
+    match open_by(rt, alloc, &epoch.opening, writer, sessions)? {
+        Ok(opened) => Ok(Ok((opened, epoch))),
         Err(served) => Ok(Err(served)),
     }
 }
@@ -302,7 +307,7 @@ where
     R: Read + Send + Drop + 'static,
     W: Write,
 {
-    let ((opened, opening), door, waker) = match begun {
+    let ((opened, epoch), door, waker) = match begun {
         Ok(begun) => begun,
         Err(served) => return Ok(served),
     };
@@ -313,7 +318,7 @@ where
     let terms = EpochTerms {
         journal: port.journal(rt, alloc, audit)?,
         bound: None,
-        opening,
+        epoch,
     };
     let ended = port.serve(rt, alloc, opened, None::<NoLog>, terms, writer);
     port.close(rt, alloc, ended, writer)

@@ -5,45 +5,62 @@ ghost use Rattle.std.specs.Io.{ReadsAtMost};
 use crate::first_words::FirstWords;
 use crate::resumed::Peer;
 use crate::waker::Waker;
+use album_threads::Load;
 use std::alloc::Global;
 use std::io::{ErrorKind, Read};
 use std::sync::atomic::{AtomicBool, AtomicU64, Ordering};
 use std::sync::{Arc, Wait};
 use std::{io, time};
 
-/// How long the log of an epoch may get.
+/// How long an epoch may get.
 #[derive(Drop)]
-pub struct LogBound {
-    /// How many bytes it has.
-    pub size: Arc<AtomicU64, Global>,
-    /// With so many the epoch turns.
+pub struct EpochBound {
+    /// How many bytes its log has, if there is one. Else about those count that its writes take in memory.
+    pub log: Option<Arc<AtomicU64, Global>>,
+    /// With so many bytes the epoch turns.
     pub most: u64,
 }
+
+/// At so many looks the turn isn't due, once it was put off: some ten seconds.
+const LOOKS_OFF: u64 = 200;
 
 /// Whether the epoch turns, and how many connections have read what isn't answered yet.
 #[derive(Drop)]
 pub(crate) struct Turn {
     has_begun: AtomicBool,
+    /// At how many looks more it isn't due.
+    put_off: AtomicU64,
     busy: AtomicU64,
     /// Wakes the thread that accepts.
     waker: Waker,
-    bound: LogBound,
+    bound: EpochBound,
 }
 
 impl Turn {
     /// It hasn't begun.
-    pub(crate) fn new(waker: Waker, bound: LogBound) -> Turn {
+    pub(crate) fn new(waker: Waker, bound: EpochBound) -> Turn {
         Turn {
             has_begun: AtomicBool::new(false),
+            put_off: AtomicU64::new(0),
             busy: AtomicU64::new(0),
             waker,
             bound,
         }
     }
 
-    /// Whether the log is as long as it may get.
-    pub(crate) fn has_long_log(&self) -> bool {
-        self.bound.size.load(Ordering::SeqCst) >= self.bound.most
+    /// Whether it is to begin: a partition has taken up nearly all of its marks, or there are as many bytes as there may
+    /// be.
+    pub(crate) fn is_due(&self, loads: &[Load]) -> bool {
+        let off = self.put_off.load(Ordering::SeqCst);
+        if off > 0 {
+            self.put_off.store(off - 1, Ordering::SeqCst);
+            return false;
+        }
+        let bytes = match &self.bound.log {
+            Some(size) => size.load(Ordering::SeqCst),
+            None => bytes_of(loads),
+        };
+        bytes >= self.bound.most || loads.iter().any(has_nearly_all)
     }
 
     /// From now on nothing that is read is answered in this epoch.
@@ -55,6 +72,12 @@ impl Turn {
     /// The epoch goes on after all.
     pub(crate) fn cancel(&self) {
         self.has_begun.store(false, Ordering::SeqCst);
+    }
+
+    /// Not all that was read can be answered now, and the epoch goes on. It turns later.
+    pub(crate) fn put_off(&self) {
+        self.put_off.store(LOOKS_OFF, Ordering::SeqCst);
+        self.cancel();
     }
 
     pub(crate) fn has_begun(&self) -> bool {
@@ -87,6 +110,23 @@ impl Turn {
             }
         }
     }
+}
+
+/// About how many bytes the writes take, at all partitions.
+fn bytes_of(loads: &[Load]) -> u64 {
+    let mut bytes = 0u64;
+    for load in loads {
+        bytes = bytes.saturating_add(load.bytes);
+    }
+    bytes
+}
+
+/// Whether the partition has nine tenths of the marks that it may have, or no two more. Without a mark it has room for
+/// what there is room for.
+fn has_nearly_all(load: &Load) -> bool {
+    load.marks > 0
+        && (9 * u128::from(load.limit) <= 10 * u128::from(load.marks)
+            || load.marks.saturating_add(2) > load.limit)
 }
 
 /// Reads a connection in an epoch. Once that turns, what is read is kept for the next one, and the read fails.

@@ -28,8 +28,7 @@ struct Warned {
 }
 
 /// Looks at the figures each so many seconds, until it is ended. Where `stats` is not 0 they are printed each time.
-/// Where epochs turn it looks more often, and has this one turn where a partition has nearly as many marks as it may
-/// have, or the log as many bytes.
+/// Where epochs turn it looks more often whether this one is to turn.
 pub(crate) fn watch<J: ServiceNames, T: Host>(
     rt: &T,
     alloc: Global,
@@ -90,33 +89,21 @@ fn look<J: ServiceNames, T: Host>(
     is_due: bool,
     warned: &mut Warned,
 ) {
-    // Without memory, or where a partition's thread has ended, there are none this time.
-    let Ok(parts) = shared.gauge.figures(rt) else {
-        return;
-    };
-    let connections = &shared.connections;
-    let has_turn = shared.turn.is_some();
     if let Some(turn) = &shared.turn
-        && (turn.has_long_log() || parts.iter().any(has_nearly_all))
+        // Without memory, or where a partition's thread has ended, there are none this time.
+        && let Ok(loads) = shared.gauge.loads(rt)
+        && turn.is_due(&loads)
     {
         turn.begin();
     }
-    if is_due {
+    if is_due && let Ok(parts) = shared.gauge.figures(rt) {
+        let connections = &shared.connections;
         let figures = figures_of(rt, &shared.gauge, connections, parts);
-        let _ = warned.warn(rt, alloc, connections, has_turn, &figures);
+        let _ = warned.warn(rt, alloc, connections, shared.turn.is_some(), &figures);
         if shared.stats > 0 {
             print(rt, alloc, connections, &figures);
         }
     }
-}
-
-/// Whether the partition has nine tenths of the marks that it may have, or no two more. Without a mark it has room for
-/// what there is room for.
-fn has_nearly_all(has: &Figures) -> bool {
-    let made = has.marks.saturating_add(has.pending);
-    made > 0
-        && (9 * u128::from(has.limit) <= 10 * u128::from(made)
-            || made.saturating_add(2) > has.limit)
 }
 
 fn figures_of<J: ServiceNames, T: Wait>(

@@ -95,8 +95,8 @@ impl<J: ServiceNames> Session<J> {
         })
     }
 
-    /// Takes in all that was published so far.
-    fn listen<R: Wait>(&mut self, rt: &R) -> Listened<J>
+    /// Takes in all that was published so far, by whichever session of the service.
+    pub fn listen<R: Wait>(&mut self, rt: &R) -> Listened<J>
         ensures listened { Extends result.cut self.new.cut }
         ensures still { IsStill self.old self.new }
     {

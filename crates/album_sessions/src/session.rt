@@ -21,6 +21,7 @@ use album_channels::PartitionChannel;
 use album_eval::Policy;
 use album_items::{ItemId, Items};
 use album_keepers::{Control, ControlAnswer, PartitionMail};
+use album_partition::Mark;
 use album_stamps::{ClientNo, Clock, Refusal, Stamp};
 use crossbeam_channel::Sender;
 use std::alloc::Global;
@@ -135,7 +136,37 @@ impl<J: ServiceNames> Session<J> {
         match self.inquire(rt, part, &Control::Pending)?? {
             ControlAnswer::Pending(stamps) => Ok(stamps),
             // A partition answers each control request by its own variant: `Answers`.
-            ControlAnswer::Swept | ControlAnswer::Trimmed => unreachable!(),
+            ControlAnswer::History(_) | ControlAnswer::Swept | ControlAnswer::Trimmed => {
+                unreachable!()
+            }
+        }
+    }
+
+    /// All marks that the partition has made, in order.
+    ///
+    /// # Errors
+    ///
+    /// `NoSuchPart` where there is none of this number; else `Closed` or `OutOfMemory`.
+    pub fn history<R: Wait + time::Clock>(
+        &mut self,
+        rt: &R,
+        part: u16,
+    ) -> Result<Vec<Mark>, Refusal>
+        ensures history { IfOk result (λ marks. marks.items ≡ prefix_at self.new.cut part) }
+        ensures nowhere { self.old.cut.parts ≤ part → result ≡ Err NoSuchPart }
+        ensures untouched { self.old.cut.parts ≤ part → self.new ≡ self.old }
+        ensures refused { IfErr result (λ e. part < self.old.cut.parts → IsClosedOrOutOfMemory e) }
+        ensures grown { Extends self.old.cut self.new.cut }
+        ensures sound { IsSound self.new.cut }
+        ensures client { self.new.client ≡ self.old.client }
+        ensures adds { AddsNothing self.old self.new }
+    {
+        match self.inquire(rt, part, &Control::History)?? {
+            ControlAnswer::History(marks) => Ok(marks),
+            // As above.
+            ControlAnswer::Pending(_) | ControlAnswer::Swept | ControlAnswer::Trimmed => {
+                unreachable!()
+            }
         }
     }
 

@@ -39,4 +39,5 @@ pub admins_send : (admins : Admins) (who : Principal) (said : TalkLine) → is_a
 admins_send admins who (line.Ask ask) e = refl
 admins_send admins who (line.Pending part) e = ap (let_through (line.Pending part)) e
 admins_send admins who (line.Sweep part stamp) e = ap (let_through (line.Sweep part stamp)) e
+admins_send admins who line.Dump e = ap (let_through line.Dump) e
 admins_send admins who (line.Trim part item) e = ap (let_through (line.Trim part item)) e

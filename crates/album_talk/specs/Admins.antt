@@ -1,4 +1,4 @@
--- Who may sweep, trim and ask what is pending over a connection.
+-- Who may sweep, trim, dump and ask what is pending over a connection.
 use Rattle.std.specs.Prelude.{◌≡◌, List, map, Bool, true, false, bytes_eq, if◌then◌else◌, Option, Some, Result, Ok, Err}
 use Rattle.std.specs.List.{list_any}
 use Rattle.album_stamps.specs.declared.refusals.Refusal.{Refusal}
@@ -33,4 +33,5 @@ permitted admins who (line.Ask ask) = Ok (line.Ask ask)
 permitted admins who (line.Pending part) = if is_admin admins who then Ok (line.Pending part) else Err NotAdmin
 permitted admins who (line.Sweep part stamp) =
     if is_admin admins who then Ok (line.Sweep part stamp) else Err NotAdmin
+permitted admins who line.Dump = if is_admin admins who then Ok line.Dump else Err NotAdmin
 permitted admins who (line.Trim part item) = if is_admin admins who then Ok (line.Trim part item) else Err NotAdmin

@@ -1,9 +1,10 @@
 -- A talk: what the lines of a connection are answered, in a session.
-use Rattle.std.specs.Prelude.{◌≡◌, ◌≢◌, ◌⊎◌, ◌≤◌, ℕ, List, [], ◌∷◌, ◌++◌, MatchBool, Option, Some, None, Result, Ok, Err}
+use Rattle.std.specs.Prelude.{◌≡◌, ◌≢◌, ◌⊎◌, ◌≤◌, ℕ, ◌+◌, false, List, [], ◌∷◌, ◌++◌, length, MatchBool, Option, Some, None, Result, Ok, Err}
 use Rattle.album_stamps.specs.declared.refusals.Refusal.{Refusal}
 use Rattle.album_stamps.specs.Outcome.{◌>>=◌}
 use Rattle.album_stamps.specs.declared.refusals.Refusal.TheVariants.{OutOfMemory, BadLine, NoSuchPart, NotPrepared}
 use Rattle.album_items.specs.FirstStamps.{Stamps}
+use Rattle.album_items.specs.declared.openings.Opening.{Opening}
 use Rattle.album_terminate.specs.declared.deciding.StampState.TheVariants as state
 use Rattle.album_partition.specs.Marks.{ArePending, state_of, latest, floor}
 use Rattle.album_eval.specs.declared.facts.Principal.{Principal}
@@ -11,7 +12,7 @@ use Rattle.album_eval.specs.declared.policies.Policy.{Policy}
 use Rattle.album_views.specs.Checks.{refusal_of}
 use Rattle.album_views.specs.declared.asks.Ask.{Ask}
 use Rattle.album_permits.specs.declared.answers.Answer.{Answer}
-use Rattle.album_passes.specs.Cuts.{prefix_at}
+use Rattle.album_passes.specs.Cuts.{Cut, prefix_at}
 use Rattle.album_sessions.specs.Asks.{IsOn}
 use Rattle.album_keepers.specs.Controls.{IsUntrimmed}
 use Rattle.album_sessions.specs.Attempts.{RestsOnLast}
@@ -27,19 +28,29 @@ use Rattle.album_wire.specs.declared.talk_json.TalkOut.TheVariants as says
 use Rattle.album_wire.specs.TalkLine.{hello_line_of, talk_line_of}
 use Rattle.album_wire.specs.declared.talk_line.TalkLine.{TalkLine}
 use Rattle.album_wire.specs.declared.talk_line.TalkLine.TheVariants as line
+use Rattle.album_wire.specs.WholeOpening.{text_of_opening}
+use Rattle.album_turns.specs.Left.{IsFoundBy}
 use Rattle.album_talk.specs.Admins.{permitted}
 use Rattle.album_talk.specs.declared.admins.Admins.{Admins}
+use Rattle.album_talk.specs.declared.epoch.Epoch.{Epoch}
 use Rattle.album_judge.specs.Writes.{IsPrefixOf}
 
 -- ---- by what it goes
 
--- who may send more than asks, and the stamps that are shown of first values
+-- who may send more than asks, and the epoch
 pub record Rules : Type 0 where
   pub admins : Admins
-  pub stamps : Stamps
+  pub epoch : Epoch
 
-abbrev pub rules_of : Admins → Stamps → Rules
-rules_of admins stamps = record { admins = admins; stamps = stamps }
+abbrev pub rules_of : Admins → Epoch → Rules
+rules_of admins epoch = record { admins = admins; epoch = epoch }
+
+-- an epoch of which nothing is known
+abbrev pub unknown_epoch : Epoch
+unknown_epoch = record {
+  opening = record { parts = 0; limit = 0; policy = 0; checked = false; first = 0; items = []; stamps = [] };
+  number = None;
+}
 
 -- ---- what a session answers to a line
 
@@ -81,6 +92,11 @@ AnswersTrim limit part item old new (Ok done) = IsTrimmed part item old new
 AnswersTrim limit part item old new (Err why) =
     IsNowhere old part why ⊎ (IsUntrimmed limit new.cut part item why ⊎ IsClosedOrOutOfMemory why)
 
+-- of a dump: what would be left to the next epoch, by a session that has first listened to its service
+abbrev pub AnswersDump : Opening → SessionState → Result Opening Refusal → Type 0
+AnswersDump opening old (Ok next) = (listened : Cut) × IsFoundBy old.cut opening listened next
+AnswersDump opening old (Err why) = Unit {0}
+
 -- ---- the text of an answer, or of a refusal
 
 abbrev pub asked_text : Stamps → (client : ℕ) → Result Answer Refusal → List ℕ
@@ -94,6 +110,14 @@ pending_text (Err why) = refusal_line why
 abbrev pub done_text : TalkOut → Result Unit Refusal → List ℕ
 done_text said (Ok done) = talk_text said
 done_text said (Err why) = refusal_line why
+
+-- the lines of a dump: how many follow, and those of an opening, which has two more than it has items
+abbrev pub dumped : Opening → List ℕ
+dumped next = talk_text (says.Dump (length next.items + 2)) ++ text_of_opening next
+
+abbrev pub dump_text : Result Opening Refusal → List ℕ
+dump_text (Ok next) = dumped next
+dump_text (Err why) = refusal_line why
 
 -- ---- what a line is answered, by a session that is so before it and so after it
 
@@ -125,11 +149,20 @@ IsTrimmedFor limit part item old new text =
     × (text ≡ done_text says.Trimmed answer)
     × AddsNothing old new
 
-abbrev pub AnswersTalk : ℕ → Policy → Stamps → Principal → TalkLine → SessionState → SessionState → List ℕ → Type 0
-AnswersTalk limit policy stamps who (line.Ask ask) old new text = IsAsked limit policy stamps who ask old new text
-AnswersTalk limit policy stamps who (line.Pending part) old new text = IsPendingAnswered part old new text
-AnswersTalk limit policy stamps who (line.Sweep part stamp) old new text = IsSweptFor part stamp old new text
-AnswersTalk limit policy stamps who (line.Trim part item) old new text = IsTrimmedFor limit part item old new text
+abbrev pub IsDumped : Opening → SessionState → SessionState → List ℕ → Type 0
+IsDumped opening old new text =
+    (answer : Result Opening Refusal)
+    × AnswersDump opening old answer
+    × (text ≡ dump_text answer)
+    × AddsNothing old new
+
+abbrev pub AnswersTalk : ℕ → Policy → Epoch → Principal → TalkLine → SessionState → SessionState → List ℕ → Type 0
+AnswersTalk limit policy epoch who (line.Ask ask) old new text =
+    IsAsked limit policy epoch.opening.stamps who ask old new text
+AnswersTalk limit policy epoch who (line.Pending part) old new text = IsPendingAnswered part old new text
+AnswersTalk limit policy epoch who (line.Sweep part stamp) old new text = IsSweptFor part stamp old new text
+AnswersTalk limit policy epoch who line.Dump old new text = IsDumped epoch.opening old new text
+AnswersTalk limit policy epoch who (line.Trim part item) old new text = IsTrimmedFor limit part item old new text
 
 -- ---- a line
 
@@ -154,29 +187,34 @@ talk_line_read (Some bytes) = talk_line_of bytes
 abbrev pub talk_line_heard : Admins → Principal → Line → Result TalkLine Refusal
 talk_line_heard admins who line = talk_line_read line >>= permitted admins who
 
--- the first line says who talks, and is answered the client's number
-abbrev pub Greets : Talker → Result Principal Refusal → Talker → List ℕ → Type 0
-Greets old (Ok who) new text =
+-- what is said to who has said who it is: the client's number, and that of the epoch, where a service tells them apart
+abbrev pub hello_out : Option ℕ → ℕ → TalkOut
+hello_out None client = says.Hello client
+hello_out (Some epoch) client = says.HelloIn client epoch
+
+-- the first line says who talks, and is answered so
+abbrev pub Greets : Option ℕ → Talker → Result Principal Refusal → Talker → List ℕ → Type 0
+Greets epoch old (Ok who) new text =
     (new ≡ record { who = Some who; session = old.session })
-    × (text ≡ talk_text (says.Hello old.session.client))
-Greets old (Err why) new text = (new ≡ old) × (text ≡ refusal_line why)
+    × (text ≡ talk_text (hello_out epoch old.session.client))
+Greets epoch old (Err why) new text = (new ≡ old) × (text ≡ refusal_line why)
 
 -- a later line is answered, and the session has seen more
-pub record IsAnswered (limit : ℕ) (policy : Policy) (stamps : Stamps) (who : Principal) (said : TalkLine) (old new : Talker)
+pub record IsAnswered (limit : ℕ) (policy : Policy) (epoch : Epoch) (who : Principal) (said : TalkLine) (old new : Talker)
     (text : List ℕ) : Type 0 where
   pub named : new.who ≡ Some who
   pub on : IsOn old.session new.session
-  pub answers : AnswersTalk limit policy stamps who said old.session new.session text
+  pub answers : AnswersTalk limit policy epoch who said old.session new.session text
 
-abbrev pub AnswersLater : ℕ → Policy → Stamps → Principal → Talker → Result TalkLine Refusal → Talker → List ℕ → Type 0
-AnswersLater limit policy stamps who old (Ok said) new text = IsAnswered limit policy stamps who said old new text
-AnswersLater limit policy stamps who old (Err why) new text = (new ≡ old) × (text ≡ refusal_line why)
+abbrev pub AnswersLater : ℕ → Policy → Epoch → Principal → Talker → Result TalkLine Refusal → Talker → List ℕ → Type 0
+AnswersLater limit policy epoch who old (Ok said) new text = IsAnswered limit policy epoch who said old new text
+AnswersLater limit policy epoch who old (Err why) new text = (new ≡ old) × (text ≡ refusal_line why)
 
 -- until it is said who talks, a line that doesn't say so is refused
 abbrev pub Hears : ℕ → Policy → Rules → Option Principal → Talker → Line → Talker → List ℕ → Type 0
-Hears limit policy rules None old line new text = Greets old (hello_line_read line) new text
+Hears limit policy rules None old line new text = Greets rules.epoch.number old (hello_line_read line) new text
 Hears limit policy rules (Some who) old line new text =
-    AnswersLater limit policy rules.stamps who old (talk_line_heard rules.admins who line) new text
+    AnswersLater limit policy rules.epoch who old (talk_line_heard rules.admins who line) new text
 
 -- A blank line is skipped. On another memory may run out; then that is answered, and nothing has happened.
 abbrev pub TalksOnce : ℕ → Policy → Rules → Talker → Line → Talker → List ℕ → Type 0

@@ -1,4 +1,4 @@
-//! Who may sweep, trim and ask what is pending over a connection.
+//! Who may sweep, trim, dump and ask what is pending over a connection.
 ghost use Rattle.std.specs.Prelude.{◌≡◌, ◌≢◌, ◌⊎◌, ◌↔◌, ℕ, [], Vec, map, true, false, Contains, Some, Ok, Err, IfOk, IfErr};
 ghost use Rattle.std.specs.List.{list_any};
 ghost use Rattle.std.specs.declared.alloc.Global.{Global};
@@ -54,8 +54,9 @@ impl Admins {
             TalkLine::Ask(ask) => Ok(TalkLine::Ask(ask)),
             TalkLine::Pending(part) if self.include(who) => Ok(TalkLine::Pending(part)),
             TalkLine::Sweep(part, stamp) if self.include(who) => Ok(TalkLine::Sweep(part, stamp)),
+            TalkLine::Dump if self.include(who) => Ok(TalkLine::Dump),
             TalkLine::Trim(part, item) if self.include(who) => Ok(TalkLine::Trim(part, item)),
-            TalkLine::Pending(_) | TalkLine::Sweep(..) | TalkLine::Trim(..) => {
+            TalkLine::Pending(_) | TalkLine::Sweep(..) | TalkLine::Dump | TalkLine::Trim(..) => {
                 Err(Refusal::NotAdmin)
             }
         }
@@ -119,6 +120,8 @@ pub fn only_admins_are_heard()
         → is_admin admins who ≡ false → permitted admins who (TalkLine.Pending part) ≡ Err NotAdmin }
     ensures sweeps { (admins : Admins) (who : Principal) (part stamp : ℕ)
         → is_admin admins who ≡ false → permitted admins who (TalkLine.Sweep part stamp) ≡ Err NotAdmin }
+    ensures dumps { (admins : Admins) (who : Principal)
+        → is_admin admins who ≡ false → permitted admins who TalkLine.Dump ≡ Err NotAdmin }
     ensures trims { (admins : Admins) (who : Principal) (part item : ℕ)
         → is_admin admins who ≡ false → permitted admins who (TalkLine.Trim part item) ≡ Err NotAdmin }
 {}

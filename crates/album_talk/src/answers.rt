@@ -5,17 +5,21 @@ ghost use Rattle.album_stamps.specs.Outcome.{Gives};
 ghost use Rattle.album_sessions.specs.Asks.{IsOn};
 ghost use Rattle.album_lines.specs.Lines.{said};
 ghost use Rattle.album_lines.specs.Output.{refusal_line};
-ghost use Rattle.album_talk.specs.Talk.{rules_of, AnswersAsk, AnswersTalk, AnswersLater, Greets, IsAsked, IsPendingAnswered, IsSweptFor, IsTrimmedFor, TalksOnce, hello_line_read, talk_line_heard};
+ghost use Rattle.album_talk.specs.Talk.{rules_of, dumped, hello_out, AnswersAsk, AnswersTalk, AnswersLater, Greets, IsAsked, IsDumped, IsPendingAnswered, IsSweptFor, IsTrimmedFor, TalksOnce, hello_line_read, talk_line_heard};
 
 use crate::admins::Admins;
+use crate::epoch::Epoch;
 use album_eval::Principal;
-use album_items::{FirstStamps, ItemId};
+use album_items::{ItemId, Opening};
 use album_lines::{LineIn, write_refusal};
 use album_permits::Answer;
 use album_sessions::{ServiceNames, Session};
-use album_stamps::{Refusal, Stamp};
+use album_stamps::{ClientNo, Refusal, Stamp};
+use album_turns::leave;
 use album_views::Ask;
-use album_wire::{TalkLine, TalkOut, read_hello, read_talk, write_shown_answer, write_talk};
+use album_wire::{
+    TalkLine, TalkOut, read_hello, read_talk, text_of_opening, write_shown_answer, write_talk,
+};
 use json::Scratch;
 use std::alloc::Global;
 use std::sync::Wait;
@@ -32,11 +36,11 @@ pub(crate) fn answer<J: ServiceNames, T: Wait + time::Clock>(
     scratch: &mut Scratch,
     session: &mut Session<J>,
     admins: &Admins,
-    stamps: &FirstStamps,
+    epoch: &Epoch,
     who: &mut Option<Principal>,
     line: &LineIn,
 ) -> Result<Vec<u8>, Refusal>
-    ensures answered { IfOk result (λ text. TalksOnce J.terms.limit J.policy (rules_of admins.now stamps.now)
+    ensures answered { IfOk result (λ text. TalksOnce J.terms.limit J.policy (rules_of admins.now epoch.now)
         (record { who = who.old; session = session.old }) (said line.now)
         (record { who = who.new; session = session.new }) text.items) }
     ensures on { IsOn session.old session.new }
@@ -47,9 +51,9 @@ pub(crate) fn answer<J: ServiceNames, T: Wait + time::Clock>(
         return Ok(Vec::new(alloc));
     }
     match &*who {
-        None => greet(alloc, scratch, session, who, line),
+        None => greet(alloc, scratch, session, epoch, who, line),
         Some(principal) => {
-            answer_later(rt, alloc, scratch, session, admins, stamps, principal, line)
+            answer_later(rt, alloc, scratch, session, admins, epoch, principal, line)
         }
     }
 }
@@ -59,19 +63,30 @@ fn greet<J: ServiceNames>(
     alloc: Global,
     scratch: &mut Scratch,
     session: &Session<J>,
+    epoch: &Epoch,
     who: &mut Option<Principal>,
     line: &LineIn,
 ) -> Result<Vec<u8>, Refusal>
-    ensures { IfOk result (λ text. Greets (record { who = who.old; session = session.now })
+    ensures { IfOk result (λ text. Greets epoch.now.number (record { who = who.old; session = session.now })
         (hello_line_read (said line.now)) (record { who = who.new; session = session.now }) text.items
         ⊎ ((who.new ≡ who.old) × (text.items ≡ refusal_line OutOfMemory))) }
 {
     match hello_line(alloc, scratch, line) {
         Ok(principal) => {
             *who = Some(principal);
-            write_talk(alloc, &TalkOut::Hello(session.client()))
+            write_talk(alloc, &hello_out(epoch.number, session.client()))
         }
         Err(refusal) => write_refusal(alloc, refusal),
+    }
+}
+
+/// What is said to who has said who it is.
+fn hello_out(number: Option<u64>, client: ClientNo) -> TalkOut
+    ensures { result ≡ hello_out number client }
+{
+    match number {
+        None => TalkOut::Hello(client),
+        Some(epoch) => TalkOut::HelloIn(client, epoch),
     }
 }
 
@@ -89,11 +104,11 @@ fn answer_later<J: ServiceNames, T: Wait + time::Clock>(
     scratch: &mut Scratch,
     session: &mut Session<J>,
     admins: &Admins,
-    stamps: &FirstStamps,
+    epoch: &Epoch,
     principal: &Principal,
     line: &LineIn,
 ) -> Result<Vec<u8>, Refusal>
-    ensures answered { IfOk result (λ text. AnswersLater J.terms.limit J.policy stamps.now principal.now
+    ensures answered { IfOk result (λ text. AnswersLater J.terms.limit J.policy epoch.now principal.now
         (record { who = Some principal.now; session = session.old })
         (talk_line_heard admins.now principal.now (said line.now))
         (record { who = Some principal.now; session = session.new }) text.items
@@ -103,7 +118,7 @@ fn answer_later<J: ServiceNames, T: Wait + time::Clock>(
     // For contracts alone.
     session.has_granted_writes();
     match talk_line(alloc, scratch, admins, principal, line) {
-        Ok(line) => carry_out(rt, alloc, session, stamps, principal, line),
+        Ok(line) => carry_out(rt, alloc, session, epoch, principal, line),
         Err(refusal) => write_refusal(alloc, refusal),
     }
 }
@@ -127,18 +142,19 @@ fn carry_out<J: ServiceNames, T: Wait + time::Clock>(
     rt: &T,
     alloc: Global,
     session: &mut Session<J>,
-    stamps: &FirstStamps,
+    epoch: &Epoch,
     principal: &Principal,
     line: TalkLine,
 ) -> Result<Vec<u8>, Refusal>
     ensures answers { IfOk result (λ text.
-        AnswersTalk J.terms.limit J.policy stamps.now principal.now line session.old session.new text.items) }
+        AnswersTalk J.terms.limit J.policy epoch.now principal.now line session.old session.new text.items) }
     ensures on { IsOn session.old session.new }
 {
     match line {
-        TalkLine::Ask(ask) => carry_out_ask(rt, alloc, session, stamps, principal, ask),
+        TalkLine::Ask(ask) => carry_out_ask(rt, alloc, session, epoch, principal, ask),
         TalkLine::Pending(part) => pending(rt, alloc, session, part),
         TalkLine::Sweep(part, stamp) => sweep(rt, alloc, session, part, stamp),
+        TalkLine::Dump => dump(rt, alloc, session, epoch),
         TalkLine::Trim(part, item) => trim(rt, alloc, session, part, item),
     }
 }
@@ -147,16 +163,16 @@ fn carry_out_ask<J: ServiceNames, T: Wait + time::Clock>(
     rt: &T,
     alloc: Global,
     session: &mut Session<J>,
-    stamps: &FirstStamps,
+    epoch: &Epoch,
     principal: &Principal,
     ask: Ask,
 ) -> Result<Vec<u8>, Refusal>
     ensures answers { IfOk result (λ text.
-        IsAsked J.terms.limit J.policy stamps.now principal.now ask session.old session.new text.items) }
+        IsAsked J.terms.limit J.policy epoch.now.opening.stamps principal.now ask session.old session.new text.items) }
     ensures on { IsOn session.old session.new }
 {
     match asked(rt, session, principal, ask) {
-        Ok(answer) => write_shown_answer(alloc, stamps, session.client(), &answer),
+        Ok(answer) => write_shown_answer(alloc, &epoch.opening.stamps, session.client(), &answer),
         Err(refusal) => write_refusal(alloc, refusal),
     }
 }
@@ -228,4 +244,31 @@ fn trim<J: ServiceNames, T: Wait + time::Clock>(
         Ok(()) => write_talk(alloc, &TalkOut::Trimmed),
         Err(refusal) => write_refusal(alloc, refusal),
     }
+}
+
+/// What the service would leave to its next epoch: a line that says how many lines follow, and the lines of an opening.
+fn dump<J: ServiceNames, T: Wait + time::Clock>(
+    rt: &T,
+    alloc: Global,
+    session: &mut Session<J>,
+    epoch: &Epoch,
+) -> Result<Vec<u8>, Refusal>
+    ensures answers { IfOk result (λ text. IsDumped epoch.now.opening session.old session.new text.items) }
+    ensures on { IsOn session.old session.new }
+{
+    match leave(rt, alloc, session, &epoch.opening) {
+        Ok(left) => dump_text(alloc, &left.into_opening()),
+        Err(refusal) => write_refusal(alloc, refusal),
+    }
+}
+
+/// The lines of a dump. Those of an opening are its header, one for each item, and `begin`.
+fn dump_text(alloc: Global, next: &Opening) -> Result<Vec<u8>, Refusal>
+    ensures { IfOk result (λ text. text.items ≡ dumped next.now) }
+{
+    let lines = (next.items.as_slice().len() as u64).saturating_add(2);
+    let mut text = write_talk(alloc, &TalkOut::Dump(lines))?;
+    let opening = text_of_opening(alloc, next)?;
+    text.extend_from_slice(&opening)?;
+    Ok(text)
 }

@@ -1,7 +1,7 @@
 //! The talk of a connection: what a session answers to its lines.
 //!
-//! What comes in: a reader and a writer, whatever they are, a session, who may send more than asks, and a journal. What
-//! goes out: for each line that is read, one line with the session's answer, or with the refusal. Where a fault goes
+//! What comes in: a reader and a writer, whatever they are, a session, who may send more than asks, the epoch, and a
+//! journal. What goes out: for each line that is read, one line with the session's answer, or with the refusal. Where a fault goes
 //! out, a prefix of these lines was written before. What was noted for an answer is in the journal before any byte of
 //! the answer is written.
 //!
@@ -16,10 +16,14 @@ mod admins;
 // Where is written what was noted.
 mod journal;
 
+// The epoch in which it is talked.
+mod epoch;
+
 // What a line is answered, and the engine.
 mod answers;
 mod talk;
 
 pub use admins::{Admins, only_admins_are_heard};
+pub use epoch::Epoch;
 pub use journal::{Journal, NoJournal};
 pub use talk::{converse, talk_on};

@@ -4,14 +4,14 @@ ghost use Rattle.std.specs.Prelude.{◌≡◌, ◌≢◌, [], map, Err, OnOk, On
 ghost use Rattle.std.specs.Io.KnownBytes.{Appends, IsAtEnd};
 ghost use Rattle.album_sessions.specs.Asks.{IsOn};
 ghost use Rattle.album_lines.specs.Lines.{lines_of, last, said};
-ghost use Rattle.album_talk.specs.Talk.{rules_of, IsTalk, MayTalk, Talks, stranger, IsRecordedTalk, IsRecordedPart, IsWrittenIf};
+ghost use Rattle.album_talk.specs.Talk.{rules_of, unknown_epoch, IsTalk, MayTalk, Talks, stranger, IsRecordedTalk, IsRecordedPart, IsWrittenIf};
 ghost use Rattle.album_judge.specs.Writes.{HasRead, Writes, Exchanges, IsPrefixOf, IsCutShort, IsLeftBy, IsEndedBy};
 
 use crate::admins::Admins;
 use crate::answers::answer;
+use crate::epoch::Epoch;
 use crate::journal::{Journal, NoJournal};
 use album_eval::Principal;
-use album_items::FirstStamps;
 use album_judge::{Fault, PIECE, write_text};
 use album_lines::{LineIn, Lines};
 use album_sessions::{ServiceNames, Session};
@@ -39,7 +39,7 @@ pub fn converse<J: ServiceNames, T: Wait + time::Clock, R: Read, W: Write>(
     // Without a fault the whole input was read, and exactly the lines' talk is written, from the session's old state to
     // its new one.
     ensures ok { OnOk result (IfSome (R.remaining reader.old) (λ input.
-        Writes (IsTalk J.terms.limit J.policy (rules_of Admins.Anyone []) session.old session.new (lines_of input))
+        Writes (IsTalk J.terms.limit J.policy (rules_of Admins.Anyone unknown_epoch) session.old session.new (lines_of input))
         (W.contents writer.old) (W.contents writer.new))) }
     ensures whole { OnOk result (IsAtEnd (R.remaining reader.new)) }
 
@@ -47,14 +47,14 @@ pub fn converse<J: ServiceNames, T: Wait + time::Clock, R: Read, W: Write>(
     // the end.
     ensures err { OnErr result (IfSome (R.remaining reader.old) (λ input.
         Writes (IsPrefixOf
-        (MayTalk J.terms.limit J.policy (rules_of Admins.Anyone []) session.new
+        (MayTalk J.terms.limit J.policy (rules_of Admins.Anyone unknown_epoch) session.new
         (stranger session.old) (lines_of input)))
         (W.contents writer.old) (W.contents writer.new))) }
 
     // What is written then answers what was read. Reading: each line that has ended, and nothing else.
     // Writing: an answer is cut short. Memory: each answer is whole, and one is not there.
     ensures fault { IfErr result (λ fault.
-        Exchanges (IsEndedBy fault (MayTalk J.terms.limit J.policy (rules_of Admins.Anyone []) session.new
+        Exchanges (IsEndedBy fault (MayTalk J.terms.limit J.policy (rules_of Admins.Anyone unknown_epoch) session.new
         (stranger session.old)))
         (R.remaining reader.old) (R.remaining reader.new) (W.contents writer.old) (W.contents writer.new)) }
 
@@ -75,15 +75,15 @@ pub fn converse<J: ServiceNames, T: Wait + time::Clock, R: Read, W: Write>(
         writer,
         session,
         &Admins::Anyone,
-        &FirstStamps::new(alloc),
+        &Epoch::unknown(alloc),
         &NoJournal,
         &mut None,
         turns,
     )
 }
 
-/// The same, where who talks may only ask, unless it is one of the admins; first values are shown with these stamps. It
-/// may be said already who talks: so a talk goes on in another session, with another reader. The journal is settled
+/// The same, where who talks may only ask, unless it is one of the admins; first values are shown with the stamps of the
+/// epoch's opening. It may be said already who talks: so a talk goes on in another session, with another reader. The journal is settled
 /// before each answer: what was noted is recorded by then, and where it can't be, no byte of the answer is written.
 ///
 /// # Errors
@@ -96,14 +96,14 @@ pub fn talk_on<J: ServiceNames, T: Wait + time::Clock, R: Read, W: Write, A: Jou
     writer: &mut W,
     session: &mut Session<J>,
     admins: &Admins,
-    stamps: &FirstStamps,
+    epoch: &Epoch,
     journal: &A,
     who: &mut Option<Principal>,
     turns: u64,
 ) -> Result<(), Fault>
     // Without a fault the whole input was read, and exactly the lines' talk is written, from the old talker to the new.
     ensures ok { OnOk result (IfSome (R.remaining reader.old) (λ input.
-        Writes (Talks J.terms.limit J.policy (rules_of admins.now stamps.now)
+        Writes (Talks J.terms.limit J.policy (rules_of admins.now epoch.now)
         (record { who = who.old; session = session.old }) (lines_of input) (record { who = who.new; session = session.new }))
         (W.contents writer.old) (W.contents writer.new))) }
     ensures whole { OnOk result (IsAtEnd (R.remaining reader.new)) }
@@ -111,26 +111,26 @@ pub fn talk_on<J: ServiceNames, T: Wait + time::Clock, R: Read, W: Write, A: Jou
     // On a fault, a prefix of a talk of the lines is written. In that talk the session has seen no more than it has at
     // the end.
     ensures err { OnErr result (IfSome (R.remaining reader.old) (λ input.
-        Writes (IsPrefixOf (MayTalk J.terms.limit J.policy (rules_of admins.now stamps.now) session.new
+        Writes (IsPrefixOf (MayTalk J.terms.limit J.policy (rules_of admins.now epoch.now) session.new
         (record { who = who.old; session = session.old }) (lines_of input)))
         (W.contents writer.old) (W.contents writer.new))) }
 
     // What is written then answers what was read, as in `converse`.
     ensures fault { IfErr result (λ fault.
-        Exchanges (IsEndedBy fault (MayTalk J.terms.limit J.policy (rules_of admins.now stamps.now) session.new
+        Exchanges (IsEndedBy fault (MayTalk J.terms.limit J.policy (rules_of admins.now epoch.now) session.new
         (record { who = who.old; session = session.old })))
         (R.remaining reader.old) (R.remaining reader.new) (W.contents writer.old) (W.contents writer.new)) }
 
     // Where a read failed, the talk of the lines that have ended has come to the new talker: another may go on from it.
     ensures left { result ≡ Err Fault.Reading →
         Exchanges (IsEndedBy Fault.Reading (λ lines text.
-        Talks J.terms.limit J.policy (rules_of admins.now stamps.now)
+        Talks J.terms.limit J.policy (rules_of admins.now epoch.now)
         (record { who = who.old; session = session.old }) lines
         (record { who = who.new; session = session.new }) text))
         (R.remaining reader.old) (R.remaining reader.new) (W.contents writer.old) (W.contents writer.new) }
 
     // What was noted for an answer is recorded before any byte of it is written, whether there is a fault or not.
-    ensures recorded { Writes (IsRecordedPart J.terms.limit J.policy (rules_of admins.now stamps.now)
+    ensures recorded { Writes (IsRecordedPart J.terms.limit J.policy (rules_of admins.now epoch.now)
         (A.recorded journal.now) (record { who = who.old; session = session.old })) (W.contents writer.old) (W.contents writer.new) }
 
     // The session has only seen more.
@@ -158,7 +158,7 @@ pub fn talk_on<J: ServiceNames, T: Wait + time::Clock, R: Read, W: Write, A: Jou
                 &mut scratch,
                 session,
                 admins,
-                stamps,
+                epoch,
                 journal,
                 who,
                 lines,
@@ -172,7 +172,7 @@ pub fn talk_on<J: ServiceNames, T: Wait + time::Clock, R: Read, W: Write, A: Jou
             &mut scratch,
             session,
             admins,
-            stamps,
+            epoch,
             journal,
             who,
             &ended,
@@ -189,27 +189,27 @@ fn finish<J: ServiceNames, T: Wait + time::Clock, W: Write, A: Journal>(
     scratch: &mut Scratch,
     session: &mut Session<J>,
     admins: &Admins,
-    stamps: &FirstStamps,
+    epoch: &Epoch,
     journal: &A,
     who: &mut Option<Principal>,
     lines: Lines,
     writer: &mut W,
 ) -> Result<(), Fault>
-    ensures ok { OnOk result (Writes (Talks J.terms.limit J.policy (rules_of admins.now stamps.now)
+    ensures ok { OnOk result (Writes (Talks J.terms.limit J.policy (rules_of admins.now epoch.now)
         (record { who = who.old; session = session.old })
         (last lines) (record { who = who.new; session = session.new }))
         (W.contents writer.old) (W.contents writer.new)) }
     ensures fault { IfErr result (λ fault. Writes
-        (IsLeftBy fault (MayTalk J.terms.limit J.policy (rules_of admins.now stamps.now) session.new
+        (IsLeftBy fault (MayTalk J.terms.limit J.policy (rules_of admins.now epoch.now) session.new
         (record { who = who.old; session = session.old }))
         (last lines))
         (W.contents writer.old) (W.contents writer.new)) }
     ensures recorded { OnOk result (Writes (IsRecordedTalk J.terms.limit J.policy
-        (rules_of admins.now stamps.now) (A.recorded journal.now)
+        (rules_of admins.now epoch.now) (A.recorded journal.now)
         (record { who = who.old; session = session.old }) (record { who = who.new; session = session.new }))
         (W.contents writer.old) (W.contents writer.new)) }
     ensures part { OnErr result (Writes (IsRecordedPart J.terms.limit J.policy
-        (rules_of admins.now stamps.now) (A.recorded journal.now)
+        (rules_of admins.now epoch.now) (A.recorded journal.now)
         (record { who = who.old; session = session.old }))
         (W.contents writer.old) (W.contents writer.new)) }
     ensures on { IsOn session.old session.new }
@@ -223,7 +223,7 @@ fn finish<J: ServiceNames, T: Wait + time::Clock, W: Write, A: Journal>(
             scratch,
             session,
             admins,
-            stamps,
+            epoch,
             journal,
             who,
             &[line],
@@ -239,33 +239,33 @@ fn answer_lines<J: ServiceNames, T: Wait + time::Clock, W: Write, A: Journal>(
     scratch: &mut Scratch,
     session: &mut Session<J>,
     admins: &Admins,
-    stamps: &FirstStamps,
+    epoch: &Epoch,
     journal: &A,
     who: &mut Option<Principal>,
     lines: &[LineIn],
     writer: &mut W,
 ) -> Result<(), Fault>
-    ensures ok { OnOk result (Writes (Talks J.terms.limit J.policy (rules_of admins.now stamps.now)
+    ensures ok { OnOk result (Writes (Talks J.terms.limit J.policy (rules_of admins.now epoch.now)
         (record { who = who.old; session = session.old })
         (map said lines.now) (record { who = who.new; session = session.new }))
         (W.contents writer.old) (W.contents writer.new)) }
     ensures fault { IfErr result (λ fault. Writes
-        (IsLeftBy fault (MayTalk J.terms.limit J.policy (rules_of admins.now stamps.now) session.new
+        (IsLeftBy fault (MayTalk J.terms.limit J.policy (rules_of admins.now epoch.now) session.new
         (record { who = who.old; session = session.old }))
         (map said lines.now)) (W.contents writer.old) (W.contents writer.new)) }
     ensures recorded { OnOk result (Writes (IsRecordedTalk J.terms.limit J.policy
-        (rules_of admins.now stamps.now) (A.recorded journal.now)
+        (rules_of admins.now epoch.now) (A.recorded journal.now)
         (record { who = who.old; session = session.old }) (record { who = who.new; session = session.new }))
         (W.contents writer.old) (W.contents writer.new)) }
     ensures part { OnErr result (Writes (IsRecordedPart J.terms.limit J.policy
-        (rules_of admins.now stamps.now) (A.recorded journal.now)
+        (rules_of admins.now epoch.now) (A.recorded journal.now)
         (record { who = who.old; session = session.old }))
         (W.contents writer.old) (W.contents writer.new)) }
     ensures on { IsOn session.old session.new }
 {
     session.has_granted_writes();
     for line in lines {
-        let text = answer(rt, alloc, scratch, session, admins, stamps, who, line)?;
+        let text = answer(rt, alloc, scratch, session, admins, epoch, who, line)?;
         write_settled(rt, journal, session, who.as_ref(), writer, &text)?;
     }
     Ok(())

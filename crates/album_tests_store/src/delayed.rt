@@ -4,6 +4,9 @@
 ghost use Rattle.std.specs.Prelude.{◌≡◌};
 ghost use Rattle.album_threads.specs.Opened.{opened_as};
 
+// Sessions that wait while a mail of another one is held.
+mod queued;
+
 use crate::asked::Wish::{Add, List, Read, Retitle, SetList, SetLists, SetMembers};
 use crate::asked::{Wish, answer_to, member};
 use crate::gates::{Hold, Watching};
@@ -237,10 +240,27 @@ const ADDED: Delayed = Delayed {
 };
 
 /// Where a session's mails to a partition come, and where they are passed on to.
-#[derive(Drop)]
 struct Relay<J: ServiceNames> {
     mails: Receiver<PartitionMail<J>>,
     to: Sender<PartitionMail<J>>,
+}
+
+// By hand, so that what lets it go is proved once.
+impl<J: ServiceNames> Drop for Relay<J> {
+    fn drop(self) {
+        let Relay { mails, to } = self;
+        drop(mails);
+        drop(to);
+    }
+}
+
+impl<J: ServiceNames> Relay<J> {
+    /// Passes the mail on, as the last one: whoever sends the next finds nobody. So nothing that it sends is lost.
+    fn end_with<R: Wait>(self, rt: &R, mail: PartitionMail<J>) {
+        let Relay { mails, to } = self;
+        drop(mails);
+        drop(to.send(rt, mail));
+    }
 }
 
 /// Takes the place of the partition for the session.
@@ -268,10 +288,11 @@ fn pass_on<J: ServiceNames, R: Wait + Copy>(rt: R, relay: Relay<J>, case: Delaye
         if number == case.held {
             hold.wait();
         }
-        drop(relay.to.send(&rt, mail));
         if case.is_last && number == case.held {
+            relay.end_with(&rt, mail);
             return;
         }
+        drop(relay.to.send(&rt, mail));
         number = number.wrapping_add(1);
     }
     // `forever` has no end.

@@ -1,10 +1,10 @@
 //! What those who run a service look at: how much its partitions have, and what is noted.
 use album_audit::{AuditBook, Totals};
-use album_keepers::PartitionMail;
+use album_keepers::{Load, PartitionMail};
 use album_partition::Figures;
 use album_sessions::ServiceNames;
 use album_stamps::Refusal;
-use crossbeam_channel::{SendError, Sender, unbounded};
+use crossbeam_channel::{Receiver, SendError, Sender, unbounded};
 use std::alloc::Global;
 use std::sync::{Arc, Mutex, Wait};
 
@@ -38,9 +38,25 @@ impl<J: ServiceNames> Gauge<J> {
     pub fn figures<R: Wait>(&self, rt: &R) -> Result<Vec<Figures>, Refusal> {
         let mut figures = Vec::with_capacity(self.alloc, self.mailboxes.len())?;
         for mailbox in &self.mailboxes {
-            figures.push(figures_at(rt, self.alloc, mailbox)?)?;
+            let (end, from) = unbounded(self.alloc)?;
+            figures.push(answer_of(rt, mailbox, PartitionMail::Figures(end), &from)?)?;
         }
         Ok(figures)
+    }
+
+    /// How much of its epoch each partition has taken up, in the order of their numbers. Nothing is counted for it, so
+    /// it may be asked for often.
+    ///
+    /// # Errors
+    ///
+    /// As `figures`.
+    pub fn loads<R: Wait>(&self, rt: &R) -> Result<Vec<Load>, Refusal> {
+        let mut loads = Vec::with_capacity(self.alloc, self.mailboxes.len())?;
+        for mailbox in &self.mailboxes {
+            let (end, from) = unbounded(self.alloc)?;
+            loads.push(answer_of(rt, mailbox, PartitionMail::Load(end), &from)?)?;
+        }
+        Ok(loads)
     }
 
     /// The totals of the audit book so far.
@@ -49,14 +65,14 @@ impl<J: ServiceNames> Gauge<J> {
     }
 }
 
-/// How much the partition of this mailbox has.
-fn figures_at<J: ServiceNames, R: Wait>(
+/// What the partition of this mailbox sends to the receiver, once it has this mail.
+fn answer_of<J: ServiceNames, R: Wait, A: Drop>(
     rt: &R,
-    alloc: Global,
     mailbox: &Sender<PartitionMail<J>>,
-) -> Result<Figures, Refusal> {
-    let (end, from) = unbounded(alloc)?;
-    match mailbox.send(rt, PartitionMail::Figures(end)) {
+    mail: PartitionMail<J>,
+    from: &Receiver<A>,
+) -> Result<A, Refusal> {
+    match mailbox.send(rt, mail) {
         Ok(()) => from.recv(rt).map_err(|_| Refusal::Closed),
         Err(SendError::Disconnected(_)) => Err(Refusal::Closed),
         Err(SendError::OutOfMemory(_)) => Err(Refusal::OutOfMemory),

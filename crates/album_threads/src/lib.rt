@@ -20,7 +20,7 @@ mod visit;
 
 pub use album_grounds::{grounds_stay, no_new_enemy, reads_are_stable, reads_go_on};
 pub use album_keepers::{
-    Control, ControlAnswer, ControlReply, ControlRequest, DeskNames, Figures, Gate, LogEntry,
+    Control, ControlAnswer, ControlReply, ControlRequest, DeskNames, Figures, Gate, Load, LogEntry,
     MarkLog, NoLog, NotKept, Open, PartitionMail, ReplyEnvelope, RequestEnvelope,
 };
 pub use album_sessions::{Acknowledged, ServiceNames, Session, acknowledged_is_visible};

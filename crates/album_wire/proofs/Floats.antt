@@ -163,9 +163,11 @@ no_float_in_answer client (answer.Refused refusal) = refl
 
 pub no_float_in_talk : (told : TalkOut) → has_float (talk_json told) ≡ false
 no_float_in_talk (talk.Hello client) = refl
+no_float_in_talk (talk.HelloIn client epoch) = refl
 no_float_in_talk (talk.Pending stamps) = rw (in_list whole_data (λ s. refl) stamps.items) refl
 no_float_in_talk talk.Swept = refl
 no_float_in_talk talk.Trimmed = refl
+no_float_in_talk (talk.Dump lines) = refl
 no_float_in_talk (talk.Serving port) = refl
 no_float_in_talk (talk.Restarted epoch) = refl
 no_float_in_talk (talk.Totals audits alarms) = refl

@@ -22,7 +22,7 @@ use Rattle.album_wire.specs.MarkLine.{write_read, mark_read, mark_line_of, mark_
 use Rattle.album_wire.specs.OpeningJson.{opening_text}
 use Rattle.album_wire.specs.Asks.{new_list_read, new_membership_read, ask_read}
 use Rattle.album_wire.specs.EventLine.{event_read, event_line_of}
-use Rattle.album_wire.specs.TalkShape.{hello_shape_of, talk_ask_shape_of, pending_shape_of, talk_sweep_shape_of, talk_trim_shape_of}
+use Rattle.album_wire.specs.TalkShape.{hello_shape_of, talk_ask_shape_of, pending_shape_of, talk_sweep_shape_of, dump_shape_of, talk_trim_shape_of}
 use Rattle.album_wire.specs.TalkLine.{hello_line_of, talk_read, talk_line_of}
 use Rattle.album_wire.specs.OutJson.{out_line}
 use Rattle.album_wire.specs.TalkJson.{talk_text}
@@ -64,7 +64,7 @@ unfolding part_named write_shape_of mark_shape_of write_read mark_read mark_line
 marks_on_literals = tt
 
 unfoldable pub talks_on_literals : ⊤
-unfolding read_shape_of hello_shape_of talk_ask_shape_of pending_shape_of talk_sweep_shape_of talk_trim_shape_of hello_line_of talk_read talk_line_of talk_text
+unfolding read_shape_of hello_shape_of talk_ask_shape_of pending_shape_of talk_sweep_shape_of dump_shape_of talk_trim_shape_of hello_line_of talk_read talk_line_of talk_text
 talks_on_literals = tt
 
 unfoldable pub lines_on_literals : ⊤

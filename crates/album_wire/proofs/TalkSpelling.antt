@@ -1,26 +1,26 @@
 -- What is read of a line of a connection is what spells it. For `hellos_by_line` and `talks_by_line`, which are
 -- `one_hello_line` and `one_talk_line`.
-use Rattle.std.proofs.Common.{◌≡◌, ◌↔◌, ℕ, List, [], ◌∷◌, codes, Ok, refl, ap, ◌∙◌, subst}
+use Rattle.std.proofs.Common.{◌≡◌, ◌↔◌, ℕ, true, List, [], ◌∷◌, codes, Ok, refl, ap, ◌∙◌, subst}
 use Rattle.std.specs.Option.{ok_or}
 use Rattle.serde_json.specs.Data.{Data}
 use Rattle.album_stamps.specs.declared.refusals.Refusal.TheVariants.{BadWho}
 use Rattle.album_eval.specs.Matching.{principal_of}
 use Rattle.album_eval.specs.declared.facts.Principal.{Principal}
 use Rattle.album_views.specs.declared.asks.Ask.{Ask}
-use Rattle.album_lines.specs.Fields.{has, text_of}
+use Rattle.album_lines.specs.Fields.{guard, has, text_of, truth_of}
 use Rattle.album_wire.specs.AskShape.{SpelledAsk, ask_shape_of}
 use Rattle.album_wire.specs.EventShape.{part_named, sweep_of, trim_of}
 use Rattle.album_wire.specs.Asks.{ask_read}
-use Rattle.album_wire.specs.TalkShape.{SpelledTalk, Asked, Pending, Swept, Trimmed, hello_shape_of, talk_ask_shape_of, pending_shape_of, talk_sweep_shape_of, talk_trim_shape_of, talk_shape_of}
+use Rattle.album_wire.specs.TalkShape.{SpelledTalk, Asked, Pending, Swept, Dumped, Trimmed, hello_shape_of, talk_ask_shape_of, pending_shape_of, talk_sweep_shape_of, dump_shape_of, talk_trim_shape_of, talk_shape_of}
 use Rattle.album_wire.specs.TalkLine.{hello_line_of, talk_read, talk_line_of}
-use Rattle.album_wire.specs.ObjectSpelling.{HasJust}
+use Rattle.album_wire.specs.ObjectSpelling.{IsTruth, HasMember, HasJust}
 use Rattle.album_wire.specs.AskSpelling.{IsAsk}
 use Rattle.album_wire.specs.EventSpelling.{IsPrincipal, IsPart, IsSweep, IsTrim}
 use Rattle.album_wire.specs.TalkSpelling.{IsHello, IsTalk, IsHelloLine, IsTalkLine}
 use Rattle.album_wire.specs.declared.talk_line.TalkLine.{TalkLine}
 use Rattle.album_wire.specs.declared.talk_line.TalkLine.TheVariants as line
-use Rattle.album_lines.proofs.Steps.{step_taken, same_value}
-use Rattle.album_wire.proofs.Forms.{step_then, on_test, on_true, on_false, IsString, string_form, names_taken, names_then, member_form, read_member, member_taken, member_then, member_as, member_parts, is_in, is_out, line_by, known_taken, known_then}
+use Rattle.album_lines.proofs.Steps.{step_taken, same_value, test_passed}
+use Rattle.album_wire.proofs.Forms.{step_then, on_test, on_true, on_false, IsString, string_form, truth_form, read_truth, names_taken, names_then, member_form, read_member, member_taken, member_then, member_as, member_parts, is_in, is_out, line_by, known_taken, known_then}
 use Rattle.album_wire.proofs.ItemSpelling.{ReadsItems}
 use Rattle.album_wire.proofs.AskSpelling.{ask_spelled, ask_parts}
 use Rattle.album_wire.proofs.EventSpelling.{principal_form, principal_parts, part_form, read_part, sweep_form, read_sweep, trim_form, read_trim}
@@ -107,6 +107,35 @@ swept_parts part stamp d is =
     (on_true (has (codes "sweep") d) _ _ s (is_in (codes "sweep") (IsSweep part stamp) d is.value) shape)) in
     (s, which, refl)
 
+-- ---- a dump
+
+dumped_spelled : (v : TalkLine) (s : SpelledTalk) (d : Data) → dump_shape_of d ≡ Ok s → talk_read s ≡ Ok v → IsTalk v d
+unfolding dump_shape_of talk_read
+dumped_spelled v s d h g =
+    let names = names_taken (codes "dump" ∷ []) d _ s h in
+    let dump = member_taken (codes "dump") d truth_of IsTruth truth_form _ s names.1 in
+    let test = step_taken (guard dump.0) _ s dump.2 in
+    let shape : Dumped ≡ s = same_value _ _ test.2 in
+    let same : line.Dump ≡ v = same_value _ _ (ap talk_read shape ∙ g) in
+    let yes : HasMember (codes "dump") (IsTruth true) d =
+    subst (λ b. HasMember (codes "dump") (IsTruth b) d) (test_passed dump.0 test.0 test.1) dump.1 in
+    let is : IsTalk line.Dump d = record { names = names.0; value = yes } in
+    subst (λ w. IsTalk w d) same is
+
+dumped_parts : (d : Data) → HasJust (codes "dump") (IsTruth true) d
+    → (s : SpelledTalk) × (talk_shape_of d ≡ Ok s) × (talk_read s ≡ Ok line.Dump)
+unfolding dump_shape_of talk_read
+dumped_parts d is =
+    let shape : dump_shape_of d ≡ Ok Dumped =
+    names_then (codes "dump" ∷ []) d _ Dumped is.names
+    (member_then (codes "dump") d truth_of (IsTruth true) true (read_truth true) _ Dumped is.value refl) in
+    let which : talk_shape_of d ≡ Ok Dumped =
+    on_false (has (codes "ask") d) _ _ Dumped (is_out _ (codes "ask") d is.names refl)
+    (on_false (has (codes "pending") d) _ _ Dumped (is_out _ (codes "pending") d is.names refl)
+    (on_false (has (codes "sweep") d) _ _ Dumped (is_out _ (codes "sweep") d is.names refl)
+    (on_true (has (codes "dump") d) _ _ Dumped (is_in (codes "dump") (IsTruth true) d is.value) shape))) in
+    (Dumped, which, refl)
+
 module _ (reads : ReadsItems) where
   -- ---- asks and trims
 
@@ -166,7 +195,8 @@ module _ (reads : ReadsItems) where
       let which : talk_shape_of d ≡ Ok s =
       on_false (has (codes "ask") d) _ _ s (is_out _ (codes "ask") d is.names refl)
       (on_false (has (codes "pending") d) _ _ s (is_out _ (codes "pending") d is.names refl)
-      (on_false (has (codes "sweep") d) _ _ s (is_out _ (codes "sweep") d is.names refl) shape)) in
+      (on_false (has (codes "sweep") d) _ _ s (is_out _ (codes "sweep") d is.names refl)
+      (on_false (has (codes "dump") d) _ _ s (is_out _ (codes "dump") d is.names refl) shape))) in
       (s, which, refl)
 
   -- ---- lines
@@ -176,13 +206,15 @@ module _ (reads : ReadsItems) where
       on_test (has (codes "ask") d) _ _ s h (λ _ ask. said_spelled v s d ask g)
       (λ h. on_test (has (codes "pending") d) _ _ s h (λ _ pending. pending_spelled v s d pending g)
       (λ h. on_test (has (codes "sweep") d) _ _ s h (λ _ sweep. swept_spelled v s d sweep g)
-      (λ trim. trimmed_spelled v s d trim g)))
+      (λ h. on_test (has (codes "dump") d) _ _ s h (λ _ dump. dumped_spelled v s d dump g)
+      (λ trim. trimmed_spelled v s d trim g))))
 
   talk_parts : (v : TalkLine) (d : Data) → IsTalk v d
       → (s : SpelledTalk) × (talk_shape_of d ≡ Ok s) × (talk_read s ≡ Ok v)
   talk_parts (line.Ask ask) d is = said_parts ask d is
   talk_parts (line.Pending part) d is = pending_parts part d is
   talk_parts (line.Sweep part stamp) d is = swept_parts part stamp d is
+  talk_parts line.Dump d is = dumped_parts d is
   talk_parts (line.Trim part item) d is = trimmed_parts part item d is
 
   pub one_talk_line : (line : TalkLine) (bytes : List ℕ) → (talk_line_of bytes ≡ Ok line) ↔ IsTalkLine line bytes

@@ -27,3 +27,4 @@ pub mod MarkShape
 pub mod MarkLine
 pub mod MarkSpelling
 pub mod Spellable
+pub mod WholeOpening

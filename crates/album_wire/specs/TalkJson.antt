@@ -16,6 +16,14 @@ hello_json client = object_data (
     ∷ (codes "client", whole_data client)
     ∷ [])
 
+-- the same, in the epoch of this number
+abbrev pub hello_in_json : ℕ → ℕ → Data
+hello_in_json client epoch = object_data (
+    (codes "answer", string (codes "hello"))
+    ∷ (codes "client", whole_data client)
+    ∷ (codes "epoch", whole_data epoch)
+    ∷ [])
+
 -- these stamps are pending
 abbrev pub pending_json : List ℕ → Data
 pending_json stamps = object_data (
@@ -26,6 +34,13 @@ pending_json stamps = object_data (
 -- a request was done, by the word that says which
 abbrev pub done_json : List ℕ → Data
 done_json word = object_data ((codes "answer", string word) ∷ [])
+
+-- so many lines follow
+abbrev pub dump_json : ℕ → Data
+dump_json lines = object_data (
+    (codes "answer", string (codes "dump"))
+    ∷ (codes "lines", whole_data lines)
+    ∷ [])
 
 -- the service listens at this port
 abbrev pub serving_json : ℕ → Data
@@ -57,9 +72,11 @@ totals_json audits alarms = object_data (totals_fields audits alarms)
 
 abbrev pub talk_json : TalkOut → Data
 talk_json (out.Hello client) = hello_json client
+talk_json (out.HelloIn client epoch) = hello_in_json client epoch
 talk_json (out.Pending stamps) = pending_json stamps.items
 talk_json out.Swept = done_json (codes "swept")
 talk_json out.Trimmed = done_json (codes "trimmed")
+talk_json (out.Dump lines) = dump_json lines
 talk_json (out.Serving port) = serving_json port
 talk_json (out.Restarted epoch) = restarted_json epoch
 talk_json (out.Totals audits alarms) = totals_json audits alarms

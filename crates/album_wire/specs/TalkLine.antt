@@ -8,7 +8,7 @@ use Rattle.album_eval.specs.Matching.{principal_of}
 use Rattle.album_eval.specs.declared.facts.Principal.{Principal}
 use Rattle.album_lines.specs.Fields.{data_of}
 use Rattle.album_wire.specs.Asks.{ask_read}
-use Rattle.album_wire.specs.TalkShape.{SpelledTalk, Asked, Pending, Swept, Trimmed, hello_shape_of, talk_shape_of}
+use Rattle.album_wire.specs.TalkShape.{SpelledTalk, Asked, Pending, Swept, Dumped, Trimmed, hello_shape_of, talk_shape_of}
 use Rattle.album_wire.specs.declared.talk_line.TalkLine.{TalkLine}
 use Rattle.album_wire.specs.declared.talk_line.TalkLine.TheVariants as line
 
@@ -25,6 +25,7 @@ talk_read (Asked ask) = do
   Ok (line.Ask ask)
 talk_read (Pending part) = Ok (line.Pending part)
 talk_read (Swept part stamp) = Ok (line.Sweep part stamp)
+talk_read Dumped = Ok line.Dump
 talk_read (Trimmed part item) = Ok (line.Trim part item)
 
 -- what the bytes of a later line say, or the first test that they fail

@@ -1,9 +1,9 @@
 -- The lines of a connection, as they are spelled.
-use Rattle.std.specs.Prelude.{ℕ, List, codes}
+use Rattle.std.specs.Prelude.{ℕ, List, codes, true}
 use Rattle.serde_json.specs.Data.{Data}
 use Rattle.album_eval.specs.declared.facts.Principal.{Principal}
 use Rattle.album_lines.specs.Spelling.{IsJson}
-use Rattle.album_wire.specs.ObjectSpelling.{HasJust}
+use Rattle.album_wire.specs.ObjectSpelling.{HasJust, IsTruth}
 use Rattle.album_wire.specs.AskSpelling.{IsAsk}
 use Rattle.album_wire.specs.EventSpelling.{IsPrincipal, IsPart, IsSweep, IsTrim}
 use Rattle.album_wire.specs.declared.talk_line.TalkLine.{TalkLine}
@@ -18,6 +18,7 @@ abbrev pub IsTalk : TalkLine → Data → Type 0
 IsTalk (line.Ask ask) = HasJust (codes "ask") (IsAsk ask)
 IsTalk (line.Pending part) = HasJust (codes "pending") (IsPart part)
 IsTalk (line.Sweep part stamp) = HasJust (codes "sweep") (IsSweep part stamp)
+IsTalk line.Dump = HasJust (codes "dump") (IsTruth true)
 IsTalk (line.Trim part item) = HasJust (codes "trim") (IsTrim part item)
 
 -- the bytes of a first line that says this

@@ -51,6 +51,7 @@ mod out_json;
 mod record_json;
 mod talk_json;
 mod value_json;
+mod whole_opening;
 
 pub use album_lines::{
     Group, JudgeLine, LineIn, Lines, any_pieces, joined_lines, questions_by_line, read_judge,
@@ -77,3 +78,4 @@ pub use spellable::{
 };
 pub use talk_json::{Counted, TalkOut, worked_talk_outs, write_talk};
 pub use talk_line::{TalkLine, read_hello, read_talk, worked_talks};
+pub use whole_opening::text_of_opening;

@@ -4,7 +4,7 @@ ghost use Rattle.serde_json.specs.Data.{string};
 ghost use Rattle.serde_json.specs.View.{view, members_view};
 ghost use Rattle.album_lines.specs.Output.{line_text};
 ghost use Rattle.album_wire.specs.ValueJson.{members_named};
-ghost use Rattle.album_wire.specs.TalkJson.{hello_json, pending_json, done_json, serving_json, restarted_json, counted_json, totals_fields, totals_json, talk_json, talk_text};
+ghost use Rattle.album_wire.specs.TalkJson.{hello_json, hello_in_json, pending_json, done_json, dump_json, serving_json, restarted_json, counted_json, totals_fields, totals_json, talk_json, talk_text};
 
 use crate::message_json::stamps_json;
 use album_lines::{array_of, json_line, object_of, with_item, with_member};
@@ -24,10 +24,14 @@ pub struct Counted {
 pub enum TalkOut {
     /// Who speaks is the client of this number.
     Hello(ClientNo),
+    /// The same, in a service that tells its epochs apart: this one has this number.
+    HelloIn(ClientNo, u64),
     /// These stamps are pending, rising.
     Pending(Vec<Stamp>),
     Swept,
     Trimmed,
+    /// So many lines follow: an opening.
+    Dump(u64),
     /// The service listens at this port.
     Serving(u16),
     /// The epoch of this number has opened. The first one is 1.
@@ -53,8 +57,11 @@ pub fn write_talk(alloc: Global, out: &TalkOut) -> Result<Vec<u8>, Refusal>
 /// A law: the text of each, byte for byte.
 pub fn worked_talk_outs()
     ensures hello { talk_text (TalkOut.Hello 1) ≡ codes "{\"answer\":\"hello\",\"client\":1}\n" }
+    ensures hello_in { talk_text (TalkOut.HelloIn 1 2)
+        ≡ codes "{\"answer\":\"hello\",\"client\":1,\"epoch\":2}\n" }
     ensures swept { talk_text TalkOut.Swept ≡ codes "{\"answer\":\"swept\"}\n" }
     ensures trimmed { talk_text TalkOut.Trimmed ≡ codes "{\"answer\":\"trimmed\"}\n" }
+    ensures dump { talk_text (TalkOut.Dump 4) ≡ codes "{\"answer\":\"dump\",\"lines\":4}\n" }
     ensures serving { talk_text (TalkOut.Serving 7070) ≡ codes "{\"answer\":\"serving\",\"port\":7070}\n" }
     ensures restarted { talk_text (TalkOut.Restarted 2) ≡ codes "{\"answer\":\"restarted\",\"epoch\":2}\n" }
     ensures totals { talk_text (TalkOut.Totals
@@ -67,9 +74,11 @@ fn talk_json(alloc: Global, out: &TalkOut) -> Result<Value, AllocError>
 {
     match out {
         TalkOut::Hello(client) => hello_json(alloc, *client),
+        TalkOut::HelloIn(client, epoch) => hello_in_json(alloc, *client, *epoch),
         TalkOut::Pending(stamps) => pending_json(alloc, stamps),
         TalkOut::Swept => done_json(alloc, "swept"),
         TalkOut::Trimmed => done_json(alloc, "trimmed"),
+        TalkOut::Dump(lines) => dump_json(alloc, *lines),
         TalkOut::Serving(port) => serving_json(alloc, *port),
         TalkOut::Restarted(epoch) => restarted_json(alloc, *epoch),
         TalkOut::Totals { audits, alarms } => totals_json(alloc, *audits, *alarms),
@@ -83,6 +92,14 @@ fn hello_json(alloc: Global, client: ClientNo) -> Result<Value, AllocError>
     object_of(with_member(alloc, fields, "client", Ok(Value::from(client.number()))))
 }
 
+fn hello_in_json(alloc: Global, client: ClientNo, epoch: u64) -> Result<Value, AllocError>
+    ensures { IfOk result (λ v. view v ≡ hello_in_json client epoch) }
+{
+    let fields = answer_fields(alloc, "hello");
+    let fields = with_member(alloc, fields, "client", Ok(Value::from(client.number())));
+    object_of(with_member(alloc, fields, "epoch", Ok(Value::from(epoch))))
+}
+
 fn pending_json(alloc: Global, stamps: &[Stamp]) -> Result<Value, AllocError>
     ensures { IfOk result (λ v. view v ≡ pending_json stamps.now) }
 {
@@ -94,6 +111,13 @@ fn done_json(alloc: Global, word: &str) -> Result<Value, AllocError>
     ensures { IfOk result (λ v. view v ≡ done_json word.now) }
 {
     object_of(answer_fields(alloc, word))
+}
+
+fn dump_json(alloc: Global, lines: u64) -> Result<Value, AllocError>
+    ensures { IfOk result (λ v. view v ≡ dump_json lines) }
+{
+    let fields = answer_fields(alloc, "dump");
+    object_of(with_member(alloc, fields, "lines", Ok(Value::from(lines))))
 }
 
 fn serving_json(alloc: Global, port: u16) -> Result<Value, AllocError>

@@ -23,6 +23,8 @@ pub enum TalkLine {
     Pending(u16),
     /// The stamp is to be swept at the partition.
     Sweep(u16, Stamp),
+    /// All that is stored is asked for, as an opening.
+    Dump,
     /// Versions of the item are to be let go at the partition.
     Trim(u16, ItemId),
 }
@@ -82,6 +84,9 @@ pub fn worked_talks()
         ≡ Ok (TalkLine.Sweep 0 65537) }
     // 65536 has the client 0.
     ensures no_stamp { talk_line_of (codes "{\"sweep\":{\"part\":0,\"stamp\":65536}}") ≡ Err Refusal.BadRequest }
+    ensures dump { talk_line_of (codes "{\"dump\":true}") ≡ Ok TalkLine.Dump }
+    ensures no_dump { talk_line_of (codes "{\"dump\":false}") ≡ Err Refusal.BadRequest }
+    ensures dump_of { talk_line_of (codes "{\"dump\":true,\"part\":0}") ≡ Err Refusal.BadRequest }
     ensures trim { talk_line_of (codes "{\"trim\":{\"item\":\"picture/0\",\"part\":2}}")
         ≡ Ok (TalkLine.Trim 2 (picture 0)) }
     // An event of a replay that is none here.
@@ -100,6 +105,7 @@ fn said(alloc: Global, shape: &TalkShape) -> Result<TalkLine, Refusal>
         }
         TalkShape::Pending { part } => Ok(TalkLine::Pending(*part)),
         TalkShape::Sweep { part, stamp } => Ok(TalkLine::Sweep(*part, *stamp)),
+        TalkShape::Dump => Ok(TalkLine::Dump),
         TalkShape::Trim { part, item } => Ok(TalkLine::Trim(*part, *item)),
     }
 }

@@ -1,13 +1,13 @@
-//! The shapes of the lines of a connection: {who} of the first; {ask: {..}}, {pending = part}, {sweep: {part, stamp}}
-//! or {trim: {item, part}} of those after it.
+//! The shapes of the lines of a connection: {who} of the first; {ask: {..}}, {pending = part}, {sweep: {part, stamp}},
+//! {dump} or {trim: {item, part}} of those after it.
 ghost use Rattle.album_stamps.specs.Outcome.{Gives};
-ghost use Rattle.album_wire.specs.TalkShape.{spelled_talk, hello_shape_of, talk_ask_shape_of, pending_shape_of, talk_sweep_shape_of, talk_trim_shape_of, talk_shape_of};
+ghost use Rattle.album_wire.specs.TalkShape.{spelled_talk, hello_shape_of, talk_ask_shape_of, pending_shape_of, talk_sweep_shape_of, dump_shape_of, talk_trim_shape_of, talk_shape_of};
 ghost use Rattle.album_lines.specs.Trees.{value_data};
 
 use crate::ask_shape::{AskShape, ask_shape};
 use crate::event_shape::{part_under, sweep, trim};
 use album_items::ItemId;
-use album_lines::{field, has, only, text_under};
+use album_lines::{field, has, only, text_under, truth};
 use album_stamps::{Refusal, Stamp};
 use json::Value;
 use std::alloc::Global;
@@ -18,6 +18,7 @@ pub(crate) enum TalkShape<'a> {
     Ask { ask: AskShape<'a> },
     Pending { part: u16 },
     Sweep { part: u16, stamp: Stamp },
+    Dump,
     Trim { part: u16, item: ItemId },
 }
 
@@ -40,6 +41,8 @@ pub(crate) fn talk_shape<'a>(alloc: Global, value: &Value<'a>) -> Result<TalkSha
         pending_shape(value)
     } else if has(value, "sweep") {
         talk_sweep_shape(value)
+    } else if has(value, "dump") {
+        dump_shape(value)
     } else {
         talk_trim_shape(value)
     }
@@ -70,6 +73,17 @@ fn talk_sweep_shape<'a>(value: &Value<'a>) -> Result<TalkShape<'a>, Refusal>
     only(value, &["sweep"])?;
     let (part, stamp) = sweep(field(value, "sweep")?)?;
     Ok(TalkShape::Sweep { part, stamp })
+}
+
+#[tactic(auto, unfolding(crate::specs::TalkShape::dump_shape_of))]
+fn dump_shape<'a>(value: &Value<'a>) -> Result<TalkShape<'a>, Refusal>
+    ensures { Gives spelled_talk result (dump_shape_of (value_data value.now)) }
+{
+    only(value, &["dump"])?;
+    if !truth(field(value, "dump")?)? {
+        return Err(Refusal::BadRequest);
+    }
+    Ok(TalkShape::Dump)
 }
 
 #[tactic(auto, unfolding(crate::specs::TalkShape::talk_trim_shape_of))]

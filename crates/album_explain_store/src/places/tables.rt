@@ -197,6 +197,7 @@ pub(crate) fn parts_of(table: Table, line: &Value<'_>) -> Parts {
         Table::Talk if has(line, "ask") => &[("ask", Part::Ask)],
         Table::Talk if has(line, "pending") => &[("pending", Part::Plain(Form::Part))],
         Table::Talk if has(line, "sweep") => &[("sweep", Part::Sweep)],
+        Table::Talk if has(line, "dump") => &[("dump", Part::Plain(Form::True))],
         Table::Talk => &[("trim", Part::Trim)],
     }
 }

@@ -8,19 +8,19 @@ use Rattle.album_talk.proofs.talk.answer_lines.Goals as goal
 
 pub loop-line-init : goal.loop-line-init
 loop-line-init g c = record {
-  written = lines_begin g.J.DeskNames.terms.limit g.J.ServiceNames.policy (rules_of c.args.admins.now c.args.stamps.now) _ (g.W.Write.contents c.args.writer.now);
-  recorded = recorded_begins g.J.DeskNames.terms.limit g.J.ServiceNames.policy (rules_of c.args.admins.now c.args.stamps.now) (g.A.Journal.recorded c.args.journal.now) _ (g.W.Write.contents c.args.writer.now);
+  written = lines_begin g.J.DeskNames.terms.limit g.J.ServiceNames.policy (rules_of c.args.admins.now c.args.epoch.now) _ (g.W.Write.contents c.args.writer.now);
+  recorded = recorded_begins g.J.DeskNames.terms.limit g.J.ServiceNames.policy (rules_of c.args.admins.now c.args.epoch.now) (g.A.Journal.recorded c.args.journal.now) _ (g.W.Write.contents c.args.writer.now);
   on = on_self c.args.session.now c.has_granted_writes.ensures.sound;
 }
 
 pub loop-line-preserved : goal.loop-line-preserved
 loop-line-preserved g c = record {
   written =
-      lines_next g.J.DeskNames.terms.limit g.J.ServiceNames.policy (rules_of c.args.admins.now c.args.stamps.now) said c.args.lines.now c.loop-line.line-index c.line-item.result
+      lines_next g.J.DeskNames.terms.limit g.J.ServiceNames.policy (rules_of c.args.admins.now c.args.epoch.now) said c.args.lines.now c.loop-line.line-index c.line-item.result
       c.loop-line-test.true c.line-item.is _ _ _ _ _ _ _ c.loop-line.invariant.written c.in_ok-text.ensures.answered
       (rw c.deref.ensures.value at c.in_ok-write_settled.ensures.ok);
   recorded =
-      recorded_next g.J.DeskNames.terms.limit g.J.ServiceNames.policy (rules_of c.args.admins.now c.args.stamps.now) (g.A.Journal.recorded c.args.journal.now) _ _ _
+      recorded_next g.J.DeskNames.terms.limit g.J.ServiceNames.policy (rules_of c.args.admins.now c.args.epoch.now) (g.A.Journal.recorded c.args.journal.now) _ _ _
       (said c.line-item.result) _ _ _ _ c.loop-line.invariant.recorded c.in_ok-text.ensures.answered
       (rw c.deref.ensures.value at c.in_ok-write_settled.ensures.ok) (rw c.deref.ensures.value at c.in_ok-write_settled.ensures.recorded);
   on = on_trans _ _ _ c.loop-line.invariant.on c.in_ok-text.ensures.on;
@@ -31,14 +31,14 @@ pub returns-in_err-text-clause-fault : goal.returns-in_err-text-clause-fault
 returns-in_err-text-clause-fault g c =
     let p = err_from_is_err_and c.from_residual.result c.from_residual.ensures.1 in
     rw (p.1, p.2)
-    (lines_unanswered g.J.DeskNames.terms.limit g.J.ServiceNames.policy (rules_of c.args.admins.now c.args.stamps.now) said c.args.lines.now c.loop-line.line-index
+    (lines_unanswered g.J.DeskNames.terms.limit g.J.ServiceNames.policy (rules_of c.args.admins.now c.args.epoch.now) said c.args.lines.now c.loop-line.line-index
     c.loop-line-test.true _ _ _ _ c.loop-line.invariant.written _ c.answer.ensures.on)
 
 pub returns-in_err-text-clause-part : goal.returns-in_err-text-clause-part
 returns-in_err-text-clause-part g c =
     let p = err_from_is_err_and c.from_residual.result c.from_residual.ensures.1 in
     rw p.1
-    (recorded_part g.J.DeskNames.terms.limit g.J.ServiceNames.policy (rules_of c.args.admins.now c.args.stamps.now) (g.A.Journal.recorded c.args.journal.now) _ _ _ _ c.loop-line.invariant.recorded)
+    (recorded_part g.J.DeskNames.terms.limit g.J.ServiceNames.policy (rules_of c.args.admins.now c.args.epoch.now) (g.A.Journal.recorded c.args.journal.now) _ _ _ _ c.loop-line.invariant.recorded)
 
 pub returns-in_err-text-clause-on : goal.returns-in_err-text-clause-on
 returns-in_err-text-clause-on g c = on_trans _ _ _ c.loop-line.invariant.on c.answer.ensures.on
@@ -49,7 +49,7 @@ returns-in_err-write_settled-clause-fault g c =
     let p =
     err_from_is_err_and c.from_residual-in_err-write_settled.result c.from_residual-in_err-write_settled.ensures.1 in
     rw (p.1, p.2, c.in_err-write_settled.ensures.fault)
-    (lines_cut g.J.DeskNames.terms.limit g.J.ServiceNames.policy (rules_of c.args.admins.now c.args.stamps.now) said c.args.lines.now c.loop-line.line-index c.line-item.result
+    (lines_cut g.J.DeskNames.terms.limit g.J.ServiceNames.policy (rules_of c.args.admins.now c.args.epoch.now) said c.args.lines.now c.loop-line.line-index c.line-item.result
     c.loop-line-test.true c.line-item.is _ _ _ _ _ _ _ c.loop-line.invariant.written c.in_ok-text.ensures.answered _
     (on_self _ c.in_ok-text.ensures.on.sound) (rw c.deref.ensures.value at c.in_err-write_settled.ensures.err))
 
@@ -58,7 +58,7 @@ returns-in_err-write_settled-clause-part g c =
     let p =
     err_from_is_err_and c.from_residual-in_err-write_settled.result c.from_residual-in_err-write_settled.ensures.1 in
     rw p.1
-    (recorded_cut g.J.DeskNames.terms.limit g.J.ServiceNames.policy (rules_of c.args.admins.now c.args.stamps.now) (g.A.Journal.recorded c.args.journal.now) _ _ _
+    (recorded_cut g.J.DeskNames.terms.limit g.J.ServiceNames.policy (rules_of c.args.admins.now c.args.epoch.now) (g.A.Journal.recorded c.args.journal.now) _ _ _
     (said c.line-item.result) _ _ _ _ c.loop-line.invariant.recorded c.in_ok-text.ensures.answered
     (rw c.deref.ensures.value at c.in_err-write_settled.ensures.part))
 

@@ -11,7 +11,7 @@ pub returns-in-None-clause-ok : goal.returns-in-None-clause-ok
 returns-in-None-clause-ok g c =
     let limit = g.J.DeskNames.terms.limit in
     let policy = g.J.ServiceNames.policy in
-    let admins = (rules_of c.args.admins.now c.args.stamps.now) in
+    let admins = (rules_of c.args.admins.now c.args.epoch.now) in
     let written = g.W.Write.contents c.args.writer.now in
     subst (λ (ls : List Line). Writes (Talks limit policy admins (record { who = c.args.who.now; session = c.args.session.now }) ls
     (record { who = c.args.who.now; session = c.args.session.now })) written written) c.in-None.ensures
@@ -19,14 +19,14 @@ returns-in-None-clause-ok g c =
 
 pub returns-in-None-clause-recorded : goal.returns-in-None-clause-recorded
 returns-in-None-clause-recorded g c =
-    recorded_begins g.J.DeskNames.terms.limit g.J.ServiceNames.policy (rules_of c.args.admins.now c.args.stamps.now) (g.A.Journal.recorded c.args.journal.now)
+    recorded_begins g.J.DeskNames.terms.limit g.J.ServiceNames.policy (rules_of c.args.admins.now c.args.epoch.now) (g.A.Journal.recorded c.args.journal.now)
     (record { who = c.args.who.now; session = c.args.session.now }) (g.W.Write.contents c.args.writer.now)
 
 -- it does not
 pub returns-in-Some-clause-ok : goal.returns-in-Some-clause-ok
 returns-in-Some-clause-ok g c =
     subst (λ (ls : List Line). OnOk c.answer_lines.result (Writes
-    (Talks g.J.DeskNames.terms.limit g.J.ServiceNames.policy (rules_of c.args.admins.now c.args.stamps.now) (record { who = c.args.who.now; session = c.args.session.now }) ls
+    (Talks g.J.DeskNames.terms.limit g.J.ServiceNames.policy (rules_of c.args.admins.now c.args.epoch.now) (record { who = c.args.who.now; session = c.args.session.now }) ls
     (record { who = c.answer_lines.new.who; session = c.answer_lines.new.session }))
     (g.W.Write.contents c.args.writer.now) (g.W.Write.contents c.answer_lines.new.writer)))
     c.in-Some.ensures c.answer_lines.ensures.ok
@@ -34,7 +34,7 @@ returns-in-Some-clause-ok g c =
 pub returns-in-Some-clause-fault : goal.returns-in-Some-clause-fault
 returns-in-Some-clause-fault g c =
     subst (λ (ls : List Line). IfErr c.answer_lines.result (λ fault. Writes
-    (IsLeftBy fault (MayTalk g.J.DeskNames.terms.limit g.J.ServiceNames.policy (rules_of c.args.admins.now c.args.stamps.now) c.answer_lines.new.session
+    (IsLeftBy fault (MayTalk g.J.DeskNames.terms.limit g.J.ServiceNames.policy (rules_of c.args.admins.now c.args.epoch.now) c.answer_lines.new.session
     (record { who = c.args.who.now; session = c.args.session.now })) ls)
     (g.W.Write.contents c.args.writer.now) (g.W.Write.contents c.answer_lines.new.writer)))
     c.in-Some.ensures c.answer_lines.ensures.fault

@@ -11,16 +11,16 @@ use Rattle.album_talk.proofs.talk.talk_on.Goals as goal
 pub loop-turn-init : goal.loop-turn-init
 loop-turn-init g c = record {
   talked = subst
-      (λ (unfinished : Option (List ℕ)). HasTalked g.J.DeskNames.terms.limit g.J.ServiceNames.policy (rules_of c.args.admins.now c.args.stamps.now)
+      (λ (unfinished : Option (List ℕ)). HasTalked g.J.DeskNames.terms.limit g.J.ServiceNames.policy (rules_of c.args.admins.now c.args.epoch.now)
       (record { who = c.args.who.now; session = c.args.session.now })
       (record { who = c.args.who.now; session = c.args.session.now }) 0 unfinished
       (g.R.Read.remaining c.args.reader.now) (g.R.Read.remaining c.args.reader.now)
       (g.W.Write.contents c.args.writer.now) (g.W.Write.contents c.args.writer.now))
       (sym c.new-lines.ensures)
-      (begins g.J.DeskNames.terms.limit g.J.ServiceNames.policy (rules_of c.args.admins.now c.args.stamps.now)
+      (begins g.J.DeskNames.terms.limit g.J.ServiceNames.policy (rules_of c.args.admins.now c.args.epoch.now)
       (record { who = c.args.who.now; session = c.args.session.now })
       (g.R.Read.remaining c.args.reader.now) (g.W.Write.contents c.args.writer.now));
-  recorded = recorded_begins g.J.DeskNames.terms.limit g.J.ServiceNames.policy (rules_of c.args.admins.now c.args.stamps.now) (g.A.Journal.recorded c.args.journal.now) _ (g.W.Write.contents c.args.writer.now);
+  recorded = recorded_begins g.J.DeskNames.terms.limit g.J.ServiceNames.policy (rules_of c.args.admins.now c.args.epoch.now) (g.A.Journal.recorded c.args.journal.now) _ (g.W.Write.contents c.args.writer.now);
   on = on_self c.args.session.now c.has_granted_writes.ensures.sound;
   unread = λ _. refl;
 }
@@ -31,7 +31,7 @@ returns-in_default-clause-err g c = prefix_so_far _ _ _ _ _ _ _ _ _ _ _ c.loop-t
 
 pub returns-in_default-clause-recorded : goal.returns-in_default-clause-recorded
 returns-in_default-clause-recorded g c =
-    recorded_part g.J.DeskNames.terms.limit g.J.ServiceNames.policy (rules_of c.args.admins.now c.args.stamps.now) (g.A.Journal.recorded c.args.journal.now) _ _ _ _ c.loop-turn.invariant.recorded
+    recorded_part g.J.DeskNames.terms.limit g.J.ServiceNames.policy (rules_of c.args.admins.now c.args.epoch.now) (g.A.Journal.recorded c.args.journal.now) _ _ _ _ c.loop-turn.invariant.recorded
 
 -- the reader is at its end
 pub returns-then-len-eq0-clause-ok : goal.returns-then-len-eq0-clause-ok
@@ -64,8 +64,8 @@ returns-then-len-eq0-clause-on g c = on_trans _ _ _ c.loop-turn.invariant.on c.f
 pub returns-then-len-eq0-clause-recorded : goal.returns-then-len-eq0-clause-recorded
 returns-then-len-eq0-clause-recorded g c =
     by_outcome c.finish.result
-    (λ w. recorded_part g.J.DeskNames.terms.limit g.J.ServiceNames.policy (rules_of c.args.admins.now c.args.stamps.now) (g.A.Journal.recorded c.args.journal.now) _ _ _ _ (recorded_joined g.J.DeskNames.terms.limit g.J.ServiceNames.policy (rules_of c.args.admins.now c.args.stamps.now) (g.A.Journal.recorded c.args.journal.now) _ _ _ _ _ _ c.loop-turn.invariant.recorded w))
-    (λ w. recorded_part_joined g.J.DeskNames.terms.limit g.J.ServiceNames.policy (rules_of c.args.admins.now c.args.stamps.now) (g.A.Journal.recorded c.args.journal.now) _ _ _ _ _ c.loop-turn.invariant.recorded w)
+    (λ w. recorded_part g.J.DeskNames.terms.limit g.J.ServiceNames.policy (rules_of c.args.admins.now c.args.epoch.now) (g.A.Journal.recorded c.args.journal.now) _ _ _ _ (recorded_joined g.J.DeskNames.terms.limit g.J.ServiceNames.policy (rules_of c.args.admins.now c.args.epoch.now) (g.A.Journal.recorded c.args.journal.now) _ _ _ _ _ _ c.loop-turn.invariant.recorded w))
+    (λ w. recorded_part_joined g.J.DeskNames.terms.limit g.J.ServiceNames.policy (rules_of c.args.admins.now c.args.epoch.now) (g.A.Journal.recorded c.args.journal.now) _ _ _ _ _ c.loop-turn.invariant.recorded w)
     c.finish.ensures.recorded c.finish.ensures.part
 
 -- no memory for the lines
@@ -90,7 +90,7 @@ returns-in_err-ended-clause-few g c =
 
 pub returns-in_err-ended-clause-recorded : goal.returns-in_err-ended-clause-recorded
 returns-in_err-ended-clause-recorded g c =
-    recorded_part g.J.DeskNames.terms.limit g.J.ServiceNames.policy (rules_of c.args.admins.now c.args.stamps.now) (g.A.Journal.recorded c.args.journal.now) _ _ _ _ c.loop-turn.invariant.recorded
+    recorded_part g.J.DeskNames.terms.limit g.J.ServiceNames.policy (rules_of c.args.admins.now c.args.epoch.now) (g.A.Journal.recorded c.args.journal.now) _ _ _ _ c.loop-turn.invariant.recorded
 
 -- an answer is not written
 pub returns-in_err-answer_lines-clause-err : goal.returns-in_err-answer_lines-clause-err
@@ -122,7 +122,7 @@ returns-in_err-answer_lines-clause-on g c = on_trans _ _ _ c.loop-turn.invariant
 
 pub returns-in_err-answer_lines-clause-recorded : goal.returns-in_err-answer_lines-clause-recorded
 returns-in_err-answer_lines-clause-recorded g c =
-    recorded_part_joined g.J.DeskNames.terms.limit g.J.ServiceNames.policy (rules_of c.args.admins.now c.args.stamps.now) (g.A.Journal.recorded c.args.journal.now) _ _ _ _ _ c.loop-turn.invariant.recorded c.in_err-answer_lines.ensures.part
+    recorded_part_joined g.J.DeskNames.terms.limit g.J.ServiceNames.policy (rules_of c.args.admins.now c.args.epoch.now) (g.A.Journal.recorded c.args.journal.now) _ _ _ _ _ c.loop-turn.invariant.recorded c.in_err-answer_lines.ensures.part
 
 -- the next turn
 pub loop-turn-preserved : goal.loop-turn-preserved
@@ -134,7 +134,7 @@ loop-turn-preserved g c =
           turn_done _ _ _ _ _ _ _ _ _ _ _ c.loop-turn.invariant.talked _ _ c.in-Ok.ensures.bytes.0 _ _
           c.in_ok-ended.ensures.lines (record { who = c.answer_lines.new.who; session = c.answer_lines.new.session }) _ short
           (rw c.deref.ensures.value at c.in_ok-answer_lines.ensures.ok);
-      recorded = recorded_joined g.J.DeskNames.terms.limit g.J.ServiceNames.policy (rules_of c.args.admins.now c.args.stamps.now) (g.A.Journal.recorded c.args.journal.now) _ _ _ _ _ _ c.loop-turn.invariant.recorded c.in_ok-answer_lines.ensures.recorded;
+      recorded = recorded_joined g.J.DeskNames.terms.limit g.J.ServiceNames.policy (rules_of c.args.admins.now c.args.epoch.now) (g.A.Journal.recorded c.args.journal.now) _ _ _ _ _ _ c.loop-turn.invariant.recorded c.in_ok-answer_lines.ensures.recorded;
       on = on_trans _ _ _ c.loop-turn.invariant.on c.answer_lines.ensures.on;
       unread = λ none. absurd (omega (arith, none, c.loop-turn-test.true));
     }
@@ -145,4 +145,4 @@ returns-clause-err g c = prefix_so_far _ _ _ _ _ _ _ _ _ _ _ c.loop-turn.invaria
 
 pub returns-clause-recorded : goal.returns-clause-recorded
 returns-clause-recorded g c =
-    recorded_part g.J.DeskNames.terms.limit g.J.ServiceNames.policy (rules_of c.args.admins.now c.args.stamps.now) (g.A.Journal.recorded c.args.journal.now) _ _ _ _ c.loop-turn.invariant.recorded
+    recorded_part g.J.DeskNames.terms.limit g.J.ServiceNames.policy (rules_of c.args.admins.now c.args.epoch.now) (g.A.Journal.recorded c.args.journal.now) _ _ _ _ c.loop-turn.invariant.recorded

@@ -25,3 +25,11 @@ returns-clause-restarted c = refl
 pub returns-clause-totals : goal.returns-clause-totals
 unfolding lines_on_literals
 returns-clause-totals c = refl
+
+pub returns-clause-hello_in : goal.returns-clause-hello_in
+unfolding lines_on_literals
+returns-clause-hello_in c = refl
+
+pub returns-clause-dump : goal.returns-clause-dump
+unfolding lines_on_literals
+returns-clause-dump c = refl

@@ -61,3 +61,15 @@ returns-clause-trim c = refl
 pub returns-clause-deliver : goal.returns-clause-deliver
 unfolding lines_on_literals
 returns-clause-deliver c = refl
+
+pub returns-clause-dump : goal.returns-clause-dump
+unfolding lines_on_literals
+returns-clause-dump c = refl
+
+pub returns-clause-no_dump : goal.returns-clause-no_dump
+unfolding lines_on_literals
+returns-clause-no_dump c = refl
+
+pub returns-clause-dump_of : goal.returns-clause-dump_of
+unfolding lines_on_literals
+returns-clause-dump_of c = refl

@@ -9,6 +9,10 @@ pub returns-in-Pending-clause-answered : goal.returns-in-Pending-clause-answered
 returns-in-Pending-clause-answered g c =
     subst (λ (x : Control). Answers g.J.DeskNames.terms.limit c.args.self.now.owner.cut c.args.self.now.partition.number x c.pending.result) (sym c.in-Pending.is) c.pending.ensures
 
+pub returns-in-History-clause-answered : goal.returns-in-History-clause-answered
+returns-in-History-clause-answered g c =
+    subst (λ (x : Control). Answers g.J.DeskNames.terms.limit c.args.self.now.owner.cut c.args.self.now.partition.number x c.history.result) (sym c.in-History.is) c.history.ensures
+
 pub returns-in-Trim-clause-answered : goal.returns-in-Trim-clause-answered
 returns-in-Trim-clause-answered g c =
     subst (λ (x : Control). Answers g.J.DeskNames.terms.limit c.trim.new.self.owner.cut c.trim.new.self.partition.number x c.trim.result) (sym c.in-Trim.is) c.trim.ensures.answered

@@ -1,11 +1,12 @@
 //! The text of an opening, whole.
 ghost use Rattle.std.specs.Prelude.{◌≡◌, ◌++◌, List, IfOk, OnOk, IsOkUnless};
 ghost use Rattle.std.specs.List.{flat_map};
-ghost use Rattle.album_data.specs.Texts.{text_of_opening, header_of, rows_text};
+ghost use Rattle.album_wire.specs.WholeOpening.{text_of_opening, header_of, rows_text};
 
+use crate::opening_shape::Header;
+use crate::opening_text::{write_begin, write_first_value, write_header};
 use album_items::{FirstStamps, ItemId, Opening, Value};
 use album_stamps::{Refusal, Stamp};
-use album_wire::{Header, write_begin, write_first_value, write_header};
 use std::alloc::Global;
 
 /// The lines of an opening, by which a replay or a service opens on it too.

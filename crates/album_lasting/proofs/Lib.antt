@@ -1,0 +1,6 @@
+pub mod VersionLemmas
+pub mod AgeLemmas
+pub mod MadeLemmas
+pub mod StayLemmas
+pub mod AddLemmas
+pub mod SettingLemmas
