@@ -76,12 +76,20 @@ def service(opening, connections, more=(), tool=(), program=ALBUM, errors=None):
 @contextlib.contextmanager
 def durable(opening, program=ALBUM, folder=None):
     """A service of the opening's lines that keeps what it writes in this folder, or one of its own, as its process and
-    its port. It ends by no number of connections, so it is killed."""
+    its port."""
+    with tempfile.TemporaryDirectory() as own, lasting(opening, program, "--data", folder or own) as service:
+        yield service
+
+
+@contextlib.contextmanager
+def lasting(opening, program, *options):
+    """A service of the opening's lines whose epochs turn by these options, as its process and its port. It ends by no
+    number of connections, so it is killed."""
     port = free_port()
-    with tempfile.TemporaryFile() as lines, tempfile.TemporaryDirectory() as own:
+    with tempfile.TemporaryFile() as lines:
         lines.write("".join(opening).encode())
         lines.seek(0)
-        words = [program, "serve", str(port), "--data", folder or own]
+        words = [program, "serve", str(port), *options]
         with subprocess.Popen(words, stdin=lines, stdout=subprocess.PIPE) as process:
             try:
                 if b'"serving"' not in process.stdout.readline():

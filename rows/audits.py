@@ -1,8 +1,9 @@
-"""The audit file of a running service: what isn't one, whose line is torn, which stalls, or is moved away; and that no file
-is taken for standard input, output or error where these are closed."""
+"""The audit file of a running service: what isn't one, whose line is torn, which is full, stalls, or is moved away; and
+that no file is taken for standard input, output or error where these are closed."""
 import json
 import os
 import pty
+import signal
 import subprocess
 import sys
 import tempfile
@@ -12,9 +13,13 @@ import tty
 
 from options import ALLOWED, NOTHING_NOTED, READ, opening, talker
 from serving import SECONDS, Connection, Service, free_port, undated, untimed, want, wrong_of
+from strangers import fills
 from talks import ONE_PIECE
 
 AUDITED = opening([["allow", "EVERYONE@", 257, 0], ["audit", "EVERYONE@", 1, 16]])
+# eve's reads, whose answers are long, note nothing, and bo's are noted.
+AUDITED_FOR_BO = opening([["allow", "EVERYONE@", 257, 0], ["audit", "bo@users", 1, 16]]).replace(
+    b'"content":""', b'"content":"%s"' % (b"78" * 4_000))
 LINES = 2_000
 LIST = {"ask": {"do": "get_list", "object": "picture/0"}}
 
@@ -42,12 +47,24 @@ def no_audit_file(program, folder):
     with open(opened, "wb") as file:
         file.write(ALLOWED)
     os.symlink(opened, os.path.join(folder, "link"))
+    os.link(opened, os.path.join(folder, "hard"))
+    names = [opened, os.path.join(folder, "link"), os.path.join(folder, "hard"), os.path.join(folder, ".", "opening")]
     for words, path, why in ((["--audit", pipe], pipe, "a pipe or a socket is no audit file"),
-                             (["--opening", opened, "--audit", opened], opened, "the opening is no audit file"),
-                             (["--opening", opened, "--audit", os.path.join(folder, "link")],
-                              os.path.join(folder, "link"), "the opening is no audit file")):
+                             *((["--opening", opened, "--audit", name], name, "the opening is no audit file")
+                               for name in names)):
         done = subprocess.run([program, "serve", str(free_port()), *words], input=ALLOWED, capture_output=True,
                               timeout=SECONDS)
+        said = f"album: {path}: {why}\nalbum: writing failed\n".encode()
+        want((1, b"", said), (done.returncode, done.stdout, done.stderr), "the run")
+    # Standard input may be that file, too. And what the service keeps in its folder is its own.
+    kept = os.path.join(folder, "kept")
+    os.mkdir(kept)
+    for words, path, why in (([], opened, "the opening is no audit file"),
+                             (["--data", kept], os.path.join(kept, "epoch-1.log"),
+                              "an audit file is no part of the service's folder")):
+        with open(opened, "rb") as given:
+            done = subprocess.run([program, "serve", str(free_port()), "--audit", path, *words], stdin=given,
+                                  capture_output=True, timeout=SECONDS)
         said = f"album: {path}: {why}\nalbum: writing failed\n".encode()
         want((1, b"", said), (done.returncode, done.stdout, done.stderr), "the run")
     with open(opened, "rb") as file:
@@ -70,6 +87,35 @@ def a_torn_line(program, folder):
                 want(whole, untimed(file.read().removeprefix(kept)), "the file")
             reader.finish()
             service.end(b'{"alarms":[0,0],"audits":[1,0]}\n', [said.encode()])
+
+
+def a_full_disk_beside_a_deaf_client(program, folder):
+    """A note that can't be written ends the service within the grace, though a client takes no answer."""
+    for words, goes_on in ((["--until-eof"], True), (["--data", os.path.join(folder, "data")], False)):
+        words += ["--audit", "/dev/full", "--grace", "1"]
+        with Service(program, AUDITED_FOR_BO, 65535, *words, goes_on=goes_on) as service:
+            deaf = fills(service, "eve@users")
+            stuck(service)
+            noted, silent = talker(service, "bo@users"), talker(service, "cat@users")
+            began = time.monotonic()
+            noted.send(json.dumps(READ).encode() + b"\n")
+            for connection in (noted, silent):
+                want(b"", connection.answer(), "what is answered")
+            want(b"", service.run.stdout.read(), "what is printed")
+            want(1, service.run.wait(SECONDS), "the status")
+            took = time.monotonic() - began
+            want(True, took < 8, f"that the end comes within the grace: {took:.1f} s")
+            full = b"album: /dev/full: No space left on device (os error 28)\n"
+            want(True, full in service.said(), f"that {service.said()!r} has the reason")
+            for connection in (deaf, noted, silent):
+                connection.close()
+
+
+def stuck(service):
+    """Has each write that waits begin again, so that it has all the room that there is, and waits for more."""
+    for sign in (signal.SIGSTOP, signal.SIGCONT):
+        service.run.send_signal(sign)
+        time.sleep(0.1)
 
 
 def answers(connection, most, seconds):
@@ -122,6 +168,29 @@ def a_file_that_stalls(program, _folder):
         noted.close()
         service.run.stdin.close()
         want(0, service.run.wait(SECONDS), "the status")
+    finally:
+        service.__exit__()
+        os.close(master)
+        os.close(slave)
+
+
+def a_turn_beside_a_file_that_stalls(program, _folder):
+    """An epoch is due to turn while the audit file takes nothing. It goes on after a second or two: whoever notes nothing
+    is answered, and begins."""
+    service, noted, _, master, slave = stalled(program, "--epochs")
+    try:
+        other, longest = talker(service, "amy@users"), 0
+        for n in range(490):
+            if n == 460:  # nine tenths of the marks are made, and a turn is looked for twenty times a second
+                time.sleep(0.3)
+            began = time.monotonic()
+            title = {"ask": {"do": "retitle", "object": "picture/0", "title": str(n)}}
+            want("committed", other.ask(title)["answer"], f"what is answered to write {n} of who notes nothing")
+            longest = max(longest, time.monotonic() - began)
+        want(True, 0.5 < longest < 4, f"that {longest:.1f} s are the longest wait: the turn began, and was put off")
+        late = talker(service, "amy@users")
+        want("denied", late.ask(LIST)["answer"], "what a newcomer is answered")
+        noted.close()
     finally:
         service.__exit__()
         os.close(master)
@@ -235,7 +304,9 @@ def closed_descriptors(program, folder):
 FACTS = {
     "what is no audit file": no_audit_file,
     "a torn line of an audit file": a_torn_line,
+    "a full disk, and a client that takes no answer": a_full_disk_beside_a_deaf_client,
     "a file that stalls": a_file_that_stalls,
+    "an epoch that is due to turn beside a file that stalls": a_turn_beside_a_file_that_stalls,
     "a file that stalls as the service ends": a_file_that_stalls_at_the_end,
     "a file that is moved away": moved_away,
     "a file that can't be had any more": moved_to_nowhere,

@@ -34,7 +34,9 @@ def connected(service, whos):
         for client, who in enumerate(whos, 1):
             connections.append(Connection(service.port, ONE_PIECE))
             stack.callback(connections[-1].close)
-            want({"answer": "hello", "client": client}, connections[-1].ask({"who": who}), "a hello")
+            hello = connections[-1].ask({"who": who})
+            # (Where epochs turn it says the epoch, too.)
+            want(("hello", client), (hello["answer"], hello["client"]), "a hello")
         yield connections
         for connection in connections:
             connection.finish()

@@ -1,14 +1,19 @@
-"""A service at its limits: of files, of connections, of time, and of what is read of it."""
+"""A service at its limits: of files, of connections, of time, of what is read of it, and of what one client may have it
+do."""
 import fcntl
 import itertools
 import json
 import os
+import re
 import signal
 import socket
+import statistics
 import subprocess
+import tempfile
 import time
 
 from crowds import NOTHING_NOTED, TRIP, at_once
+from options import talker
 from serving import SECONDS, Connection, Differs, Service, free_port, joined, want, wrong_of
 from talks import ONE_PIECE
 
@@ -163,6 +168,123 @@ def memory_that_runs_out(program):
                 raise
 
 
+def what_full_leaves(program):
+    """A write that concerns one partition alone, and finds no room there, leaves nothing. No partition has anything
+    pending, nobody reads anything of it, and whoever asks once more is told the same."""
+    with Service(program, OPENING.replace(b'"limit":1000', b'"limit":2'), 1) as service:
+        amy = greeted(service)
+        want("committed", amy.ask(retitle("Bay"))["answer"], "the first write")
+        for counter in (2, 3):
+            wanted = {"answer": "unsettled", "client": 1, "name": "Full", "refused": 20, "stamp": counter * 65_536 + 1}
+            want(wanted, amy.ask(retitle("Cape")), "a write that finds no room")
+            for part in range(3):
+                want(PENDING, amy.ask({"pending": part}), f"what is pending at partition {part}")
+            want("Bay", amy.ask({"ask": {"do": "read", "object": "picture/0"}})["title"], "the title")
+        amy.finish()
+        service.end(NOTHING_NOTED, [b""])
+
+
+def retitle(title):
+    return {"ask": {"do": "retitle", "object": "picture/0", "title": title}}
+
+
+def wide_opening():
+    """Seventeen pictures of amy's that everyone may read, and nobody else may change. The lists of picture/1 to
+    picture/15 name thirty groups each. That of picture/16 names four groups, each of 110 groups."""
+    rows = [{"open": {"checked": True, "parts": 3, "policy": 3}}]
+    for number in range(17):
+        named = range(1, 5) if number == 16 else range(1_000 + 30 * number, 1_030 + 30 * number) if number else []
+        entries = [["allow", "OWNER@", 2032127, 0], ["allow", "EVERYONE@", 1, 0],
+                   *(["allow", f"{group}@groups", 2, 64] for group in named)]
+        value = {"content": "", "group": 0, "home": 0, "list": number, "owner": "amy@users", "title": "Sea"}
+        rows += [{"item": f"picture/{number}", "value": value},
+                 {"item": f"list/{number}", "value": {"entries": entries}}]
+    for number in range(1, 5):
+        members = [f"{group}@groups" for group in range(5_000 + 110 * number, 5_110 + 110 * number)]
+        value = {"group": 0, "list": 100 + number, "members": members, "owner": "amy@users"}
+        rows.append({"item": f"group/{number}", "value": value})
+    return joined(map(json.dumps, [*rows, {"begin": True}]))
+
+
+def seconds_to_read(connection, item):
+    began = time.monotonic()
+    want("served", connection.ask({"ask": {"do": "read", "object": item}})["answer"], f"a read of {item}")
+    return time.monotonic() - began
+
+
+def what_others_ask_of_a_picture(program):
+    """Somebody asks, again and again, to set lists that aren't hers: that of a picture which all read, and fifteen that
+    name 450 groups. Reads of that picture stay far below one of as many items."""
+    with Service(program, wide_opening(), 2) as service:
+        bo, eve = talker(service, "bo@users"), talker(service, "eve@users")
+        lists = [[f"picture/{number}", [["allow", "eve@users", 1, 0]]] for number in range(16)]
+        denied = {"answer": "denied", "client": 2, "reasons": [["picture/0", 262144, "end"]]}
+        hot, wide = [], []
+        for _ in range(20):
+            want(denied, eve.ask({"ask": {"do": "set_lists", "lists": lists}}), "what is answered")
+            hot += [seconds_to_read(bo, "picture/0") for _ in range(5)]
+            wide += [seconds_to_read(bo, "picture/16") for _ in range(5)]
+        hot, wide = statistics.median(hot), statistics.median(wide)
+        want(True, hot < wide / 3, f"that {hot * 1e6:.0f} microseconds are far below {wide * 1e6:.0f}")
+        for connection in (bo, eve):
+            connection.finish()
+        service.end(NOTHING_NOTED, [b""])
+
+
+def megabytes_of(service):
+    """The memory that the service takes."""
+    with open(f"/proc/{service.run.pid}/status") as file:
+        return int(re.search(r"^VmRSS:\s*(\d+) kB", file.read(), re.MULTILINE)[1]) / 1024
+
+
+def what_one_client_writes(program):
+    """One client sets sixteen lists again and again, by lines of 59 KB. Two hundred of them would keep some 38 MB for
+    good. With a folder epochs turn by their bytes, so two hundred more than that take less than 15 MB."""
+    entries = [["allow", f"{'u' * 8}{number:02}@users", 1, 0] for number in range(100)]
+    line = {"ask": {"do": "set_lists", "lists": [[f"picture/{number}", entries] for number in range(16)]}}
+    with tempfile.TemporaryDirectory() as folder:
+        with Service(program, wide_opening(), 65535, "--data", folder, "--log-mb", "2") as service:
+            amy, took = greeted(service), []
+            for _ in range(2):
+                for _ in range(200):
+                    want("committed", amy.ask(line).get("answer"), "what is answered")
+                took.append(megabytes_of(service))
+            want(True, took[1] < took[0] + 15, f"that {took[1]:.0f} megabytes are few more than {took[0]:.0f}")
+            amy.finish()
+
+
+def stops_by_thread(service):
+    """How often each thread of the service has left its processor: to wait, or to let others run."""
+    folder, counts = f"/proc/{service.run.pid}/task", {}
+    for thread in os.listdir(folder):
+        with open(f"{folder}/{thread}/status") as file:
+            counts[thread] = sum(map(int, re.findall(r"voluntary_ctxt_switches:\s*(\d+)", file.read())))
+    return counts
+
+
+def stops_beside(service, connection, line, name):
+    """The connection asks three hundred times. How often that thread stops that does so most, beside its own."""
+    before = stops_by_thread(service)
+    for _ in range(300):
+        want(name, connection.ask(line).get("name"), f"the answer to {line}")
+    return sorted(count - before.get(thread, 0) for thread, count in stops_by_thread(service).items())[-2]
+
+
+def refused_without_a_partition(program):
+    """What is refused for want of right wakes no partition's thread; what an admin asks does."""
+    sweep = {"sweep": {"part": 0, "stamp": 65537}}
+    with Service(program, OPENING, 2, "--admin", "amy@users") as service:
+        bo, amy = talker(service, "bo@users"), talker(service, "amy@users")
+        for line in (sweep, {"trim": {"item": "picture/0", "part": 0}}, {"pending": 0}):
+            count = stops_beside(service, bo, line, "NotAdmin")
+            want(True, count < 30, f"that {count} stops for 300 times {line} are few")
+        count = stops_beside(service, amy, sweep, "NotPrepared")
+        want(True, count > 100, f"that {count} stops for 300 sweeps of an admin's are many")
+        for connection in (bo, amy):
+            connection.finish()
+        service.end(NOTHING_NOTED, [b""])
+
+
 def refused_on_standard_error(program):
     """A refused opening is named with its line, from 1, and a port that somebody has with its number."""
     header, picture, begin = TRIP[0], TRIP[1], TRIP[-1]
@@ -191,6 +313,10 @@ FACTS = {
     "errors that nobody reads": errors_that_nobody_reads,
     "memory runs out": memory_that_runs_out,
     "what is refused is named on standard error": refused_on_standard_error,
+    "what a full partition leaves of a write": what_full_leaves,
+    "what others ask of a picture makes no read of it slower": what_others_ask_of_a_picture,
+    "what one client writes is let go as epochs turn": what_one_client_writes,
+    "what is refused for want of right asks no partition": refused_without_a_partition,
 }
 
 

@@ -2,6 +2,7 @@
 `rows/races.py PROGRAM [--plain] [SECONDS]` says how each race went; with --plain the store isn't checked, and loses some."""
 import json
 import pathlib
+import random
 import sys
 import time
 
@@ -242,6 +243,75 @@ def clients_that_go(program, is_checked=True):
         want(0, service.run.wait(SECONDS), "the status")
 
 
+ADD = {"ask": {"do": "add_picture", "album": "album/0", "title": "x", "content": ""}}
+RETITLE = {"ask": {"do": "retitle", "object": "album/0", "title": "y"}}
+STAY, GO = 43, 21
+
+
+def is_killed(service, client, until):
+    """What it was told that it added, and how many lives it had. In each it has three requests under way at all times,
+    and at a random moment it is killed. It adds in the first two alone, so that there is room."""
+    chance, made, lives = random.Random(client), [], 0
+    while time.monotonic() < until:
+        connection, end, answers = greeted(service), time.monotonic() + chance.uniform(0, 0.5), []
+        connection.send(joined(map(json.dumps, [ADD if lives < 2 else RETITLE, RETITLE, RETITLE])))
+        while (left := end - time.monotonic()) > 0:
+            connection.socket.settimeout(left)
+            try:
+                answers.append(json.loads(connection.answer()))
+            except TimeoutError:
+                break
+            connection.send(joined([json.dumps(RETITLE)]))
+        connection.breaks()
+        made += [f"picture/{answer['stamp']}" for answer in answers[:lives < 2] if answer["answer"] == "committed"]
+        lives += 1
+    return made, lives
+
+
+def ends(connection, asked):
+    """Whether the write is committed, and its stamp."""
+    began = time.monotonic()
+    answer = connection.ask(asked)
+    want(True, time.monotonic() - began < 5, "whether the answer came soon")
+    want(True, answer.get("answer") in ("committed", "aborted"), f"the answer {answer}")
+    return answer["answer"] == "committed", answer["stamp"]
+
+
+def adds_and_deletes(connection, until):
+    """What it added and didn't delete, and what it deleted: it has two pictures at most, so that there is room."""
+    made, gone = [], []
+    while time.monotonic() < until:
+        if len(made) < 2:
+            is_made, stamp = ends(connection, ADD)
+            made += [f"picture/{stamp}"] * is_made
+        elif ends(connection, {"ask": {"do": "delete", "object": made[0]}})[0]:
+            gone.append(made.pop(0))
+    return made, gone
+
+
+def clients_that_are_killed(program, is_checked=True, seconds=8.0):
+    """Of 64 clients of one album a third are killed again and again, at random moments, with requests under way. The
+    others add pictures to it and delete them meanwhile: each answer comes within five seconds, and stays true."""
+    opened = opening(is_checked, album(0, 0), entries(0, EVERYONE))
+    with Service(program, opened, 65535, "--until-eof", goes_on=True) as service:
+        steady = [greeted(service) for _ in range(STAY)]
+        until = time.monotonic() + seconds
+        rows = at_once(*((adds_and_deletes, connection, until) for connection in steady),
+                       *((is_killed, service, client, until) for client in range(GO)))
+        made = sorted(item for row, _ in rows for item in row)
+        gone = {item for _, row in rows[:STAY] for item in row}
+        print_if_alone(f"{sum(lives for _, lives in rows[STAY:])} were killed; {len(made)} pictures are there, "
+                       f"{len(gone)} were deleted")
+        want(True, len(made) > 0 and len(gone) > 0, "whether the others went on")
+        shown = set(listed(steady[0], 0))
+        want((made, set()), (sorted(shown & set(made)), shown & gone), "what is listed of what was answered")
+        for connection in steady:
+            connection.finish()
+        service.run.stdin.close()
+        want(b'{"alarms":[0,0],"audits":[0,0]}\n', service.run.stdout.read(), "the end")
+        want(0, service.run.wait(SECONDS), "the status")
+
+
 def a_service_that_closes(program, is_checked=True):
     """The input of a service ends while writes race. Each line is answered, or its connection ends; none hangs."""
     def ends(service):
@@ -282,6 +352,7 @@ RACES = {
     "the members and the owner of a group": members_and_owner,
     "64 clients and one picture": one_hot_picture,
     "clients that break off": clients_that_go,
+    "64 clients of one album, of whom a third are killed": clients_that_are_killed,
     "a service that closes": a_service_that_closes,
 }
 

@@ -24,7 +24,9 @@ OWNED = opening([["allow", "OWNER@", 2032127, 0], ["allow", "EVERYONE@", 257, 0]
 BAD_LINE = b'{"name":"BadLine","refused":2}\n'
 CLOSED = b'{"name":"Closed","refused":21}\n'
 HTTP = b"album: a request of HTTP came, and nothing after its first line was read\n"
+HELLO = b'{"who":"bo@users"}\n'
 BIG = "x" * 4_000
+THREADS = 200  # megabytes of addresses: there is room for a few threads more than a service begins with
 
 
 def until_eof(program, opened, *words, conns=65535):
@@ -156,6 +158,113 @@ def time_to_say_who(program, _folder):
         known.finish()
         closes(service, [b"".join(b"album: connection %d, client %d, nobody yet: reading failed\n" % (n, n)
                                   for n in (2, 3, 4))])
+
+
+def limits_that_are_not_given(program, folder):
+    """With --until-eof or --data whoever doesn't say who it is has ten seconds. With --until-eof, what is open as the
+    input ends has ten more. Without these nobody has a limit."""
+    with until_eof(program, big_opening()) as ending, Service(program, ALLOWED, 65535) as plain, \
+            Service(program, ALLOWED, 65535, "--data", os.path.join(folder, "data")) as kept:
+        began = time.monotonic()
+        blank, silent, endless = (Connection(service.port, ONE_PIECE) for service in (ending, kept, plain))
+        while time.monotonic() - began < 8:
+            blank.send(b"\n")
+            time.sleep(0.5)
+        for connection in (blank, silent, endless):
+            want(True, is_open(connection), "that a connection is open after eight seconds")
+        for connection in (blank, silent):
+            want(b"", first_answer(connection), "what is said at the limit")
+        took = time.monotonic() - began
+        want(True, 9.5 < took < 14, f"that the limit is ten seconds: {took:.1f} s")
+        deaf = fills(ending, "bo@users")
+        ending.run.stdin.close()
+        began = time.monotonic()
+        want(NOTHING_NOTED, ending.run.stdout.read(), "the end")
+        took = time.monotonic() - began
+        want(True, 9.5 < took < 14, f"that the grace is ten seconds: {took:.1f} s")
+        want(0, ending.run.wait(SECONDS), "the status")
+        want(True, is_open(endless), "that a connection has no limit without the options")
+        want("hello", endless.ask({"who": "bo@users"})["answer"], "a hello at last")
+        for connection in (blank, silent, deaf, endless):
+            connection.close()
+
+
+def is_open(connection):
+    """Whether the service has neither closed the connection nor said anything over it."""
+    connection.socket.setblocking(False)
+    try:
+        connection.socket.recv(1, socket.MSG_PEEK)
+        return False
+    except BlockingIOError:
+        return True
+    finally:
+        connection.socket.settimeout(SECONDS)
+
+
+def files_that_the_silent_hold(program, _folder):
+    """One client takes all files by connections that say blank lines alone: they end in time, and whoever says a
+    name is served after them."""
+    with Service(program, ALLOWED, 65535, "--until-eof", "--hello", "1", goes_on=True, files=64) as service:
+        silent = [Connection(service.port, ONE_PIECE) for _ in range(100)]
+        for connection in silent:
+            connection.send(b"\n" * 3)
+        speaks = []
+        took = seconds_of(lambda: speaks.append(talker(service, "bo@users")))
+        want(True, took < 15, f"that one who says it is served soon: {took:.1f} s")
+        want("Sea", speaks[0].ask(READ)["title"], "a title")
+        speaks[0].finish()
+        for connection in silent:
+            want(b"", first_answer(connection), "what is said to who says nothing")
+            connection.close()
+        talker(service, "bo@users").finish()
+
+
+def who_counts_with_a_folder(program, folder):
+    """With --data, too, those count alone that have said who they are. Probes don't end the service, and neither do as
+    many as are served: whoever comes after them is refused."""
+    with Service(program, ALLOWED, 2, "--data", os.path.join(folder, "data")) as service:
+        for _ in range(10):
+            Connection(service.port, ONE_PIECE).finish()
+        for who in ("bo@users", "eve@users"):
+            reader = talker(service, who)
+            want("Sea", reader.ask(READ)["title"], "a title")
+            reader.finish()
+        late = Connection(service.port, ONE_PIECE)
+        want(CLOSED, late.answer(), "what the third is answered")
+        late.close()
+        want(None, service.run.poll(), "the end of the service")
+        full = b"album: 2 of 2 connections have come: whoever comes now is refused\n"
+        want(full, undated(said_soon(service)), "standard error")
+
+
+def said_soon(service):
+    """What is on standard error, once there is something, or after five seconds."""
+    until = time.monotonic() + 5
+    while not service.said() and time.monotonic() < until:
+        time.sleep(0.02)
+    return service.said()
+
+
+def no_thread_for_a_connection(program, _folder):
+    """Where no thread can be had for a connection, it is answered OutOfMemory, standard error says why, and the others
+    are served on."""
+    with Service(program, ALLOWED, 65535, "--until-eof", goes_on=True, memory=THREADS << 20) as service:
+        served, refused = [], None
+        while refused is None and len(served) < 1_000:
+            connection = Connection(service.port, ONE_PIECE)
+            connection.send(HELLO)
+            answer = json.loads(first_answer(connection) or b"{}")
+            if answer.get("answer") == "hello":
+                served.append(connection)
+            else:
+                refused = answer
+                connection.close()
+        want({"name": "OutOfMemory", "refused": 1}, refused, f"the answer to one after {len(served)}")
+        want("Sea", served[0].ask(READ)["title"], "a title")
+        want(b"album: no thread could be had for it\n", undated(said_soon(service)), "standard error")
+        for connection in served:
+            connection.finish()
+        talker(service, "bo@users").finish()
 
 
 def fills(service, who):
@@ -332,7 +441,11 @@ FACTS = {
     "what is like a request of HTTP": what_is_like_a_request,
     "who counts": who_counts,
     "no last number of connections": no_last_number,
+    "who counts with a folder": who_counts_with_a_folder,
     "time to say who": time_to_say_who,
+    "limits that aren't given": limits_that_are_not_given,
+    "files that the silent hold": files_that_the_silent_hold,
+    "no thread for a connection": no_thread_for_a_connection,
     "a client that takes no answer": a_client_that_takes_no_answer,
 }
 

@@ -46,7 +46,7 @@ fn look(rt: &HostRuntime, alloc: Global, path: &str, lines: Option<u64>) -> Resu
         return Err(Unbegun::Folder(name, FolderError::Failed(error)));
     }
     let folder = open_folder(rt, alloc, path)?;
-    let Some(epoch) = newest_of(rt, alloc, &folder, path)? else {
+    let Some(epoch) = newest_of(rt, alloc, &folder)? else {
         return Err(Unbegun::Empty(String::from_str(alloc, path)?));
     };
     let Some(lines) = lines else {

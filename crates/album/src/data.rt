@@ -1,12 +1,14 @@
-//! The folder of `serve --data`: what a service opens on, and the log that keeps what it writes.
+//! The epochs of `serve --data` and of `serve --epochs`: what a service opens on, and the log that keeps what it writes.
 use crate::serving::served;
 use album_commands::{TURNS, open};
-use album_data::{FileLog, Folder, FolderError, Unread, next_opening, text_of_opening};
+use album_data::{FileLog, Folder, FolderError, Unread, next_opening};
 use album_items::Opening;
 use album_judge::{Fault, write_refused};
 use album_log::{Log, LogError, read_text};
 use album_port::{Served, first_opening, opening_of_text};
 use album_stamps::Refusal;
+use album_talk::Epoch;
+use album_wire::text_of_opening;
 use sqlite_disk::Disk;
 use sqlite_std_file::File as DiskFile;
 use std::alloc::{AllocError, Global};
@@ -14,15 +16,20 @@ use std::io::{Read, Write};
 use std::process::ExitCode;
 use std::sync::Arc;
 
-/// An epoch of a folder: what it opens on, and its log.
+/// An epoch that has begun, and its log, where it is of a folder. The next epoch begins on its opening too, so that is
+/// kept while this one is served.
 #[derive(Drop)]
-pub(crate) struct Epoch {
+pub(crate) struct Begun {
     pub number: u64,
-    /// The next epoch begins on it too, so it is kept while this one is served.
-    pub opening: Arc<Opening, Global>,
+    pub epoch: Arc<Epoch, Global>,
+    pub log: Option<EpochLog>,
+}
+
+/// The log of an epoch, and the path of its file.
+#[derive(Drop)]
+pub(crate) struct EpochLog {
     pub log: FileLog<DiskFile>,
-    /// The path of the log's file.
-    pub log_path: String,
+    pub path: String,
 }
 
 /// Why no epoch begins.
@@ -42,6 +49,8 @@ pub(crate) enum Unbegun {
     Damaged(String, u64, usize, Refusal),
     /// The opening of the newest epoch is none.
     BadOpening(String, Refusal),
+    /// What an epoch leaves in memory is none.
+    NoNext(Refusal),
 }
 
 impl From<AllocError> for Unbegun {
@@ -69,59 +78,86 @@ pub(crate) fn newest_of(
     rt: &HostRuntime,
     alloc: Global,
     folder: &Folder,
-    path: &str,
 ) -> Result<Option<u64>, Unbegun> {
     match folder.newest(rt) {
         Ok(newest) => Ok(newest),
-        Err(error) => Err(Unbegun::Folder(String::from_str(alloc, path)?, error)),
+        Err(error) => Err(Unbegun::Folder(String::from_str(alloc, folder.path())?, error)),
     }
 }
 
-/// Begins the next epoch of the folder: on what its newest epoch leaves, or, where it has none, on the opening that is
-/// read from the file, if there is one, and else from the input.
+/// Begins the first epoch that this service has. Without a folder it is on the opening that is read from the file, if
+/// there is one, and else from the input; so it is with a folder that has no epoch. Else it is on what the newest one
+/// leaves.
 pub(crate) fn begin<R: Read, W: Write>(
     rt: &HostRuntime,
     alloc: Global,
-    folder: &Folder,
-    path: &str,
+    folder: Option<&Folder>,
     file: Option<&str>,
     reader: &mut R,
     writer: &mut W,
-) -> Result<Epoch, Unbegun> {
-    match newest_of(rt, alloc, folder, path)? {
+) -> Result<Begun, Unbegun> {
+    let Some(folder) = folder else {
+        let opening = read_first(rt, alloc, file, reader, writer)?;
+        return epoch_in_memory(alloc, 1, opening);
+    };
+    match newest_of(rt, alloc, folder)? {
         None => {
             let opening = read_first(rt, alloc, file, reader, writer)?;
             epoch_on(rt, alloc, folder, 1, opening)
         }
         Some(number) => {
-            let text = read_log(rt, alloc, folder, number)?;
             let opening = read_epoch(rt, alloc, folder, number)?;
-            epoch_after(rt, alloc, folder, number, &opening, &text)
+            epoch_after(rt, alloc, folder, number, &opening)
         }
     }
 }
 
-/// Begins the epoch after the one of this number, which opened on this.
+/// Begins the epoch after the one of this number, which opened on this, and has left that. Where it isn't known what it
+/// has left, its log is read.
 pub(crate) fn begin_after(
     rt: &HostRuntime,
     alloc: Global,
-    folder: &Folder,
+    folder: Option<&Folder>,
     number: u64,
     opening: &Opening,
-) -> Result<Epoch, Unbegun> {
-    let text = read_log(rt, alloc, folder, number)?;
-    epoch_after(rt, alloc, folder, number, opening, &text)
+    left: Result<Opening, Refusal>,
+) -> Result<Begun, Unbegun> {
+    match (folder, left) {
+        (None, Ok(next)) => match next.check() {
+            Ok(()) => epoch_in_memory(alloc, number.saturating_add(1), next),
+            Err(why) => Err(Unbegun::NoNext(why)),
+        },
+        (None, Err(why)) => Err(Unbegun::NoNext(why)),
+        (Some(folder), Ok(next)) => {
+            let name = path_or_memory(folder.log_path(rt, number))?;
+            let next = checked(name, next)?;
+            epoch_on(rt, alloc, folder, number.saturating_add(1), next)
+        }
+        (Some(folder), Err(_)) => epoch_after(rt, alloc, folder, number, opening),
+    }
 }
 
-/// The epoch after the one of this number, which opened on this, and whose log has this text.
+/// The epoch after the one of this number, which opened on this, and whose log is read.
 fn epoch_after(
     rt: &HostRuntime,
     alloc: Global,
     folder: &Folder,
     number: u64,
     opening: &Opening,
+) -> Result<Begun, Unbegun> {
+    let text = read_log(rt, alloc, folder, number)?;
+    epoch_after_text(rt, alloc, folder, number, opening, &text)
+}
+
+/// The epoch after the one of this number, which opened on this, and whose log has this text.
+fn epoch_after_text(
+    rt: &HostRuntime,
+    alloc: Global,
+    folder: &Folder,
+    number: u64,
+    opening: &Opening,
     text: &[u8],
-) -> Result<Epoch, Unbegun> {
+) -> Result<Begun, Unbegun> {
     let next = what_follows(rt, alloc, folder, number, opening, text)?;
     epoch_on(rt, alloc, folder, number.saturating_add(1), next)
 }
@@ -141,7 +177,7 @@ pub(crate) fn repair(
     };
     let opening = read_epoch(rt, alloc, folder, number)?;
     let text = text.get(..end).unwrap_or(&text);
-    let _begun = epoch_after(rt, alloc, folder, number, &opening, text)?;
+    let _begun = epoch_after_text(rt, alloc, folder, number, &opening, text)?;
     Ok(())
 }
 
@@ -216,10 +252,7 @@ pub(crate) fn what_follows(
 ) -> Result<Opening, Unbegun> {
     let name = path_or_memory(folder.log_path(rt, number))?;
     match next_opening(alloc, opening, text) {
-        Ok(next) => match next.check() {
-            Ok(()) => Ok(next),
-            Err(why) => Err(Unbegun::BadOpening(name, why)),
-        },
+        Ok(next) => checked(name, next),
         Err(Unread::OutOfMemory) => Err(Unbegun::Ended(Err(Fault::Memory))),
         Err(Unread::Damaged { line, why }) => {
             let byte = end_of_lines(text, line.saturating_sub(1)).unwrap_or(0);
@@ -227,6 +260,14 @@ pub(crate) fn what_follows(
         }
         Err(Unread::BadOpening) => Err(Unbegun::BadOpening(name, Refusal::BadOpening)),
         Err(Unread::Spent) => Err(Unbegun::BadOpening(name, Refusal::StampsSpent)),
+    }
+}
+
+/// The opening that the log of this name leaves, if it is one.
+fn checked(name: String, next: Opening) -> Result<Opening, Unbegun> {
+    match next.check() {
+        Ok(()) => Ok(next),
+        Err(why) => Err(Unbegun::BadOpening(name, why)),
     }
 }
 
@@ -260,7 +301,7 @@ fn epoch_on(
     folder: &Folder,
     number: u64,
     opening: Opening,
-) -> Result<Epoch, Unbegun> {
+) -> Result<Begun, Unbegun> {
     let name = path_or_memory(folder.log_path(rt, number))?;
     let disk = match folder.begin_log(rt, number) {
         Ok(disk) => disk,
@@ -285,11 +326,33 @@ fn epoch_on(
         // What can't be removed does no harm.
         let _ = folder.forget(rt, number - 2);
     }
-    Ok(Epoch {
-        number,
-        opening: Arc::new(alloc, opening).map_err(|_| Fault::Memory)?,
+    let log = EpochLog {
         log: FileLog::new(alloc, log)?,
-        log_path: name,
+        path: name,
+    };
+    begun_on(alloc, number, opening, Some(log))
+}
+
+/// The epoch of this number, which begins on the opening, and of which nothing is kept on a disk.
+fn epoch_in_memory(alloc: Global, number: u64, opening: Opening) -> Result<Begun, Unbegun> {
+    begun_on(alloc, number, opening, None)
+}
+
+/// The epoch of this number, on the opening.
+fn begun_on(
+    alloc: Global,
+    number: u64,
+    opening: Opening,
+    log: Option<EpochLog>,
+) -> Result<Begun, Unbegun> {
+    let epoch = Epoch {
+        opening,
+        number: Some(number),
+    };
+    Ok(Begun {
+        number,
+        epoch: Arc::new(alloc, epoch).map_err(|_| Fault::Memory)?,
+        log,
     })
 }
 
@@ -315,6 +378,10 @@ pub(crate) fn end_of(rt: &HostRuntime, unbegun: Unbegun, so: &str) -> ExitCode {
         Unbegun::BadOpening(name, why) => {
             let why = why.name();
             eprintln!(rt; "album: {name}: {why}{so}")
+        }
+        Unbegun::NoNext(why) => {
+            let why = why.name();
+            eprintln!(rt; "album: the next epoch: {why}")
         }
     };
     ExitCode::from(1)

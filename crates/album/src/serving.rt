@@ -1,26 +1,28 @@
 //! The subcommand `serve`: a service of the port that the command line names.
 
-use crate::data::{Epoch, Unbegun, begin, begin_after, end_of, open_folder};
+use crate::data::{Begun, EpochLog, Unbegun, begin, begin_after, end_of, open_folder};
 use album_commands::{TURNS, open, status};
-use album_data::Folder;
+use album_data::{FileLog, Folder};
 use album_judge::Fault;
 use album_port::{
-    AuditFile, EpochEnd, Host, LogBound, Port, Served, Serving, serve_beside, serve_until,
+    AuditFile, EpochBound, EpochEnd, Host, Port, Served, Serving, serve_beside, serve_until,
 };
 use album_stamps::Refusal;
 use album_talk::Admins;
 use clap::ArgMatches;
+use sqlite_std_file::File as DiskFile;
 use std::alloc::Global;
-use std::fs::File;
+use std::fs::{File, metadata};
 use std::io::{Read, Write};
 use std::net::{Net, TcpListener, TcpStream};
+use std::os::unix::fs::MetadataExt;
 use std::process::ExitCode;
 use std::rt::Files;
 use std::sync::{Arc, Wait};
 use std::thread::Threads;
 use std::time;
 
-/// How many seconds `--hello` and `--grace` are with `--until-eof` and `--data`, where they aren't given.
+/// How many seconds `--hello` and `--grace` are with `--until-eof`, `--data` and `--epochs`, where they aren't given.
 const LIMIT: u32 = 10;
 
 /// Runs the service that the command line names, to its end. The files of a folder are the host's. The bound has that
@@ -54,17 +56,18 @@ where
         Ok(audit) => audit,
         Err(fault) => return status(&rt, Err(fault)),
     };
-    match matches.and_then(|m| m.get_str("data")) {
-        None => served(
+    let path = matches.and_then(|m| m.get_str("data"));
+    if path.is_none() && !matches.is_some_and(|m| m.get_flag("epochs")) {
+        return served(
             &rt,
             serve_port(rt, alloc, reader, writer, matches, admins, audit),
-        ),
-        Some(path) => match serve_folder(
-            rt, host, alloc, path, reader, writer, matches, admins, audit,
-        ) {
-            Ok(outcome) => served(&rt, Ok(outcome)),
-            Err(unbegun) => end_of(host, unbegun, ": nothing is served"),
-        },
+        );
+    }
+    match serve_on(
+        rt, host, alloc, path, reader, writer, matches, admins, audit,
+    ) {
+        Ok(outcome) => served(&rt, Ok(outcome)),
+        Err(unbegun) => end_of(host, unbegun, ": nothing is served"),
     }
 }
 
@@ -81,8 +84,30 @@ fn audit_file<T: Files<File = File> + Eprint>(
     let Some(path) = matches.and_then(|m| m.get_str("audit")) else {
         return Ok(None);
     };
-    let opening = matches.and_then(|m| m.get_str("opening"));
-    AuditFile::open(rt, alloc, path, opening).map(Some)
+    if let Some(folder) = matches.and_then(|m| m.get_str("data"))
+        && lies_in(rt, path, folder)
+    {
+        let _ = eprintln!(rt; "album: {path}: an audit file is no part of the service's folder");
+        return Err(Fault::Writing);
+    }
+    // Where no file is named, the opening is on standard input, which may be a file too.
+    let opening = matches
+        .and_then(|m| m.get_str("opening"))
+        .unwrap_or("/dev/stdin");
+    AuditFile::open(rt, alloc, path, Some(opening)).map(Some)
+}
+
+/// Whether the file at the path lies in the folder.
+fn lies_in<T: Files>(rt: &T, path: &str, folder: &str) -> bool {
+    let parent = match path.rsplit_once('/') {
+        Some(("", _)) => "/",
+        Some((parent, _)) => parent,
+        None => ".",
+    };
+    match (metadata(rt, parent), metadata(rt, folder)) {
+        (Ok(one), Ok(other)) => one.dev() == other.dev() && one.ino() == other.ino(),
+        _ => false,
+    }
 }
 
 /// Serves the port.
@@ -112,63 +137,67 @@ fn is_until_eof(matches: Option<&ArgMatches<'_>>) -> bool {
     matches.is_some_and(|m| m.get_flag("until-eof"))
 }
 
-/// Serves the port from a folder: what was committed there is served, and what is committed is kept there. The port
-/// comes first: without it no epoch begins.
-fn serve_folder<T: Host, R: Read + Send + Drop + 'static, W: Write>(
+/// Serves the port from epoch to epoch. With a folder, what was committed there is served, and what is committed is kept
+/// there. The port comes first: without it no epoch begins.
+fn serve_on<T: Host, R: Read + Send + Drop + 'static, W: Write>(
     rt: T,
     host: &HostRuntime,
     alloc: Global,
-    path: &str,
+    path: Option<&str>,
     mut reader: R,
     writer: &mut W,
     matches: Option<&ArgMatches<'_>>,
     admins: Admins,
     audit: Option<AuditFile>,
 ) -> Result<Served, Unbegun> {
-    let folder = open_folder(host, alloc, path)?;
+    let folder = match path {
+        Some(path) => Some(open_folder(host, alloc, path)?),
+        None => None,
+    };
+    let folder = folder.as_ref();
     let serving = serving_of(matches, admins, true);
     let Some(mut port) = Port::open(rt, alloc, serving)? else {
         return Ok(Served::NoPort);
     };
     let file = matches.and_then(|m| m.get_str("opening"));
-    let first = begin(host, alloc, &folder, path, file, &mut reader, writer)?;
+    let first = begin(host, alloc, folder, file, &mut reader, writer)?;
     if is_until_eof(matches) {
         port.end_with(rt, alloc, reader)?;
     }
     let ended = serve_epochs(
-        rt, host, alloc, &folder, first, &mut port, writer, matches, audit,
+        rt, host, alloc, folder, first, &mut port, writer, matches, audit,
     )?;
     Ok(port.close(rt, alloc, ended, writer)?)
 }
 
-/// Serves one epoch of the folder after another. Each but the first begins on what the one before has left.
+/// Serves one epoch after another. Each but the first begins on what the one before has left.
 fn serve_epochs<T: Host, W: Write>(
     rt: T,
     host: &HostRuntime,
     alloc: Global,
-    folder: &Folder,
-    first: Epoch,
+    folder: Option<&Folder>,
+    first: Begun,
     port: &mut Port,
     writer: &mut W,
     matches: Option<&ArgMatches<'_>>,
     audit: Option<AuditFile>,
 ) -> Result<Result<EpochEnd, Fault>, Unbegun> {
-    let (mut epoch, mut audit) = (first, audit);
+    let (mut begun, mut audit) = (first, audit);
     for _ in rt.forever() {
-        let number = epoch.number;
-        let opening = Arc::try_clone(&epoch.opening)?;
-        match serve_epoch(rt, alloc, epoch, log_most(matches), port, writer, audit) {
-            Ok(EpochEnd::Turned) => {}
+        let number = begun.number;
+        let epoch = Arc::try_clone(&begun.epoch)?;
+        let left = match serve_epoch(rt, alloc, begun, log_most(matches), port, writer, audit) {
+            Ok(EpochEnd::Turned(left)) => left,
             ended => return Ok(ended),
-        }
-        epoch = begin_after(host, alloc, folder, number, &opening)?;
+        };
+        begun = begin_after(host, alloc, folder, number, &epoch.opening, left)?;
         audit = audit_file(&rt, alloc, matches)?;
     }
     // `forever` has no end.
     unreachable!()
 }
 
-/// With how many bytes of its log an epoch turns.
+/// With how many bytes an epoch turns.
 fn log_most(matches: Option<&ArgMatches<'_>>) -> u64 {
     let megabytes = matches
         .and_then(|m| m.get_one::<u32>("log-mb"))
@@ -180,25 +209,32 @@ fn log_most(matches: Option<&ArgMatches<'_>>) -> u64 {
 fn serve_epoch<T: Host, W: Write>(
     rt: T,
     alloc: Global,
-    epoch: Epoch,
+    begun: Begun,
     most: u64,
     port: &mut Port,
     writer: &mut W,
     audit: Option<AuditFile>,
 ) -> Result<EpochEnd, Fault> {
-    let Epoch {
+    let Begun {
         number: _,
-        opening,
+        epoch,
         log,
-        log_path,
-    } = epoch;
+    } = begun;
+    let Some(EpochLog { log, path }) = log else {
+        let bound = EpochBound { log: None, most };
+        let none = None::<FileLog<DiskFile>>;
+        return port.serve_epoch(rt, alloc, &epoch, none, bound, audit, writer);
+    };
     let (Ok(failure), Ok(size)) = (log.failure(), log.size()) else {
         return Err(Fault::Memory);
     };
-    let bound = LogBound { size, most };
-    let ended = port.serve_epoch(rt, alloc, &opening, log, bound, audit, writer);
+    let bound = EpochBound {
+        log: Some(size),
+        most,
+    };
+    let ended = port.serve_epoch(rt, alloc, &epoch, Some(log), bound, audit, writer);
     if let Some(error) = failure.get() {
-        let path = log_path.as_str();
+        let path = path.as_str();
         let _ = eprintln!(rt; "album: {path}: {error}");
     }
     ended
