@@ -1,4 +1,4 @@
-//! The epochs of `serve --data` and of `serve --epochs`: what a service opens on, and the log that keeps what it writes.
+//! The epochs of `serve --data` and `serve --epochs`: what a service opens on, and the log that keeps what it writes.
 use crate::serving::served;
 use album_commands::{TURNS, open};
 use album_data::{FileLog, Folder, FolderError, Unread, next_opening};

@@ -137,8 +137,8 @@ fn is_until_eof(matches: Option<&ArgMatches<'_>>) -> bool {
     matches.is_some_and(|m| m.get_flag("until-eof"))
 }
 
-/// Serves the port from epoch to epoch. With a folder, what was committed there is served, and what is committed is kept
-/// there. The port comes first: without it no epoch begins.
+/// Serves the port from epoch to epoch. With a folder, what was committed there is served, and what is committed is
+/// kept there. The port comes first: without it no epoch begins.
 fn serve_on<T: Host, R: Read + Send + Drop + 'static, W: Write>(
     rt: T,
     host: &HostRuntime,

@@ -3,8 +3,7 @@ ghost use Rattle.std.specs.Prelude.{◌≡◌, ◌≤◌, ◌<◌, [], List, len
 ghost use Rattle.album_stamps.specs.Stamps.{counter_of};
 ghost use Rattle.album_stamps.specs.declared.limits.TheConstants.{MAX_PARTS};
 ghost use Rattle.album_partition.specs.Marks.{prepare_in};
-ghost use Rattle.album_partition.specs.declared.marks.Mark.{Mark as Made};
-ghost use Rattle.album_epochs.specs.Folding.{stamp_in, ArePrepared, AreFolded, AreFoldedStamps};
+ghost use Rattle.album_epochs.specs.Folding.{stamp_in, ArePrepared};
 ghost use Rattle.album_keepers.specs.declared.log_entries.LogEntry.{LogEntry as Entry};
 ghost use Rattle.album_data.specs.Texts.{IsLine};
 ghost use Rattle.album_data.specs.Recovery.{AreEntryLines, IsEntryLine, AreLogged, IsOpenedAfter, with_mark, marks_after};

@@ -1,5 +1,5 @@
--- The stamps at which first values were written, in the epochs before. A first value has version 0 inside; what is shown
--- of it is the stamp at which it was written.
+-- The stamps at which first values were written, in the epochs before. A first value has version 0 inside; what is
+-- shown of it is the stamp at which it was written.
 use Rattle.std.specs.Prelude.{ℕ, List, Bool, ◌==◌, nat_le, if◌then◌else◌}
 use Rattle.std.specs.BTreeMap.{insert_entry, is_at}
 use Rattle.std.specs.List.{list_all}

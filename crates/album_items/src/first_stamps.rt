@@ -8,9 +8,9 @@ use std::alloc::{AllocError, Global};
 use std::collections::BTreeMap;
 use std::marker::Model;
 
-/// The stamps at which first values were written, in the epochs before. Inside an epoch a first value is at stamp 0, and
-/// this is what is shown in its place. An item that isn't noted here is shown at 0. Contracts see items, rising, each
-/// with its stamp.
+/// The stamps at which first values were written, in the epochs before. Inside an epoch a first value is at stamp 0,
+/// and this is what is shown in its place. An item that isn't noted here is shown at 0. Contracts see items, rising,
+/// each with its stamp.
 #[derive(Debug)]
 pub struct FirstStamps {
     by_item: BTreeMap<ItemId, Stamp>,

@@ -48,8 +48,8 @@ impl Turn {
         }
     }
 
-    /// Whether it is to begin: a partition has taken up nearly all of its marks, or there are as many bytes as there may
-    /// be.
+    /// Whether it is to begin: a partition has taken up nearly all of its marks, or there are as many bytes as there
+    /// may be.
     pub(crate) fn is_due(&self, loads: &[Load]) -> bool {
         let off = self.put_off.load(Ordering::SeqCst);
         if off > 0 {

@@ -195,7 +195,8 @@ pub record IsRestart (epoch : Epoch) (world : World) (line : Line) (step : Step)
 -- the step by a line that isn't blank
 abbrev pub Takes : Stage → Line → Step → Type 0
 Takes Unopened line step = IsOpened (opened_by first_line (opening_line_read line)) step
-Takes (BeingOpened header values) line step = IsOpened (opened_by (later_line header values) (opening_line_read line)) step
+Takes (BeingOpened header values) line step =
+    IsOpened (opened_by (later_line header values) (opening_line_read line)) step
 Takes (Running epoch world) line step = IsRun epoch world line step ⊎ IsRestart epoch world line step
 Takes Over line step = step ≡ silently Over
 

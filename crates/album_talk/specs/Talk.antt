@@ -200,8 +200,9 @@ Greets epoch old (Ok who) new text =
 Greets epoch old (Err why) new text = (new ≡ old) × (text ≡ refusal_line why)
 
 -- a later line is answered, and the session has seen more
-pub record IsAnswered (limit : ℕ) (policy : Policy) (epoch : Epoch) (who : Principal) (said : TalkLine) (old new : Talker)
-    (text : List ℕ) : Type 0 where
+pub record IsAnswered
+    (limit : ℕ) (policy : Policy) (epoch : Epoch) (who : Principal) (said : TalkLine) (old new : Talker) (text : List ℕ)
+    : Type 0 where
   pub named : new.who ≡ Some who
   pub on : IsOn old.session new.session
   pub answers : AnswersTalk limit policy epoch who said old.session new.session text

@@ -1,9 +1,9 @@
 //! The talk of a connection: what a session answers to its lines.
 //!
 //! What comes in: a reader and a writer, whatever they are, a session, who may send more than asks, the epoch, and a
-//! journal. What goes out: for each line that is read, one line with the session's answer, or with the refusal. Where a fault goes
-//! out, a prefix of these lines was written before. What was noted for an answer is in the journal before any byte of
-//! the answer is written.
+//! journal. What goes out: for each line that is read, one line with the session's answer, or with the refusal; a dump
+//! has its opening behind that. Where a fault goes out, a prefix of these lines was written before. What was noted for
+//! an answer is in the journal before any byte of the answer is written.
 //!
 //! Read `talk` first, the engine: `talk_on` reads, and `answer_lines` writes. `answers` asks the session for each
 //! line. specs/Talk.antt says what a talk is, in the order of the answers, their texts, a line and the whole. Who opens

@@ -39,7 +39,8 @@ pub fn converse<J: ServiceNames, T: Wait + time::Clock, R: Read, W: Write>(
     // Without a fault the whole input was read, and exactly the lines' talk is written, from the session's old state to
     // its new one.
     ensures ok { OnOk result (IfSome (R.remaining reader.old) (λ input.
-        Writes (IsTalk J.terms.limit J.policy (rules_of Admins.Anyone unknown_epoch) session.old session.new (lines_of input))
+        Writes (IsTalk J.terms.limit J.policy (rules_of Admins.Anyone unknown_epoch)
+        session.old session.new (lines_of input))
         (W.contents writer.old) (W.contents writer.new))) }
     ensures whole { OnOk result (IsAtEnd (R.remaining reader.new)) }
 
@@ -82,9 +83,10 @@ pub fn converse<J: ServiceNames, T: Wait + time::Clock, R: Read, W: Write>(
     )
 }
 
-/// The same, where who talks may only ask, unless it is one of the admins; first values are shown with the stamps of the
-/// epoch's opening. It may be said already who talks: so a talk goes on in another session, with another reader. The journal is settled
-/// before each answer: what was noted is recorded by then, and where it can't be, no byte of the answer is written.
+/// The same, where who talks may only ask, unless it is one of the admins; first values are shown with the stamps of
+/// the epoch's opening. It may be said already who talks: so a talk goes on in another session, with another reader.
+/// The journal is settled before each answer: what was noted is recorded by then, and where it can't be, no byte of
+/// the answer is written.
 ///
 /// # Errors
 ///
@@ -104,7 +106,8 @@ pub fn talk_on<J: ServiceNames, T: Wait + time::Clock, R: Read, W: Write, A: Jou
     // Without a fault the whole input was read, and exactly the lines' talk is written, from the old talker to the new.
     ensures ok { OnOk result (IfSome (R.remaining reader.old) (λ input.
         Writes (Talks J.terms.limit J.policy (rules_of admins.now epoch.now)
-        (record { who = who.old; session = session.old }) (lines_of input) (record { who = who.new; session = session.new }))
+        (record { who = who.old; session = session.old }) (lines_of input)
+        (record { who = who.new; session = session.new }))
         (W.contents writer.old) (W.contents writer.new))) }
     ensures whole { OnOk result (IsAtEnd (R.remaining reader.new)) }
 
@@ -131,7 +134,8 @@ pub fn talk_on<J: ServiceNames, T: Wait + time::Clock, R: Read, W: Write, A: Jou
 
     // What was noted for an answer is recorded before any byte of it is written, whether there is a fault or not.
     ensures recorded { Writes (IsRecordedPart J.terms.limit J.policy (rules_of admins.now epoch.now)
-        (A.recorded journal.now) (record { who = who.old; session = session.old })) (W.contents writer.old) (W.contents writer.new) }
+        (A.recorded journal.now) (record { who = who.old; session = session.old }))
+        (W.contents writer.old) (W.contents writer.new) }
 
     // The session has only seen more.
     ensures on { IsOn session.old session.new }

@@ -1,7 +1,8 @@
 //! Turns: what a running service leaves to its next epoch.
 //!
-//! What comes in: a session of the service, and the opening on which it opened. What goes out: the opening with which the next epoch
-//! begins. All that was published on the service's board before is carried into it, and nothing is read from a disk.
+//! What comes in: a session of the service, and the opening on which it opened. What goes out: the opening with which
+//! the next epoch begins. All that was published on the service's board before is carried into it, and nothing is read
+//! from a disk.
 //!
 //! Read specs/Left.antt first, then `leaving` and `laws`.
 #![tactic(auto)]

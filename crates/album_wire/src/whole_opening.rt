@@ -1,6 +1,5 @@
 //! The text of an opening, whole.
 ghost use Rattle.std.specs.Prelude.{◌≡◌, ◌++◌, List, IfOk, OnOk, IsOkUnless};
-ghost use Rattle.std.specs.List.{flat_map};
 ghost use Rattle.album_wire.specs.WholeOpening.{text_of_opening, header_of, rows_text};
 
 use crate::opening_shape::Header;
