@@ -7,6 +7,7 @@ use Rattle.album_partition.specs.Marks.{ArePending, state_of, is_full, latest, f
 use Rattle.album_partition.specs.declared.marks.Mark.{Mark}
 use Rattle.album_passes.specs.Changes.{merged, KeepsOwn}
 use Rattle.album_passes.specs.Cuts.{Cut, prefix_at, IsPrefix, Extends}
+use Rattle.album_passes.specs.Knowledge.{AreApart}
 use Rattle.album_passes.specs.Pass.{PassState}
 use Rattle.album_passes.proofs.CutLemmas.{extends_self, longer_at}
 use Rattle.album_passes.proofs.PrefixLemmas.{longer_cases}
@@ -85,3 +86,14 @@ pub later_joined : (a : ChannelState) (n : ℕ) (p q : PassState) → record { c
 later_joined a n p q view is x own =
     subst (λ (b : ChannelState). IsLater b (record { client = n; cut = q.cut })) view
     (record { client = refl; grown = x; own = λ m t f g. own m t (is ∙ f) g })
+
+-- ---- two sessions
+
+-- whose passes have other numbers, are other clients
+pub clients_apart : (one other : ChannelState) (mine theirs : ℕ) (cut more : Cut) (p q : PassState) → AreApart p.number q.number
+    → p.number ≡ Some mine → q.number ≡ Some theirs → record { client = mine; cut = cut } ≡ one
+    → record { client = theirs; cut = more } ≡ other → one.client ≢ other.client
+clients_apart one other mine theirs cut more p q apart e f is are = λ same.
+    let a : mine ≡ one.client = ap (λ (k : ChannelState). k.client) is in
+    let b : theirs ≡ other.client = ap (λ (k : ChannelState). k.client) are in
+    apart mine theirs e f (a ∙ same ∙ sym b)

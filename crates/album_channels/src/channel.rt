@@ -13,7 +13,7 @@ use crate::sightings::{Sighting, clear, put};
 use album_board::{Board, Listened, Published, listen, publish};
 use album_keepers::{
     Breakage, Control, ControlAnswer, ControlReply, ControlRequest, DeskNames, Inbox,
-    PartitionMail, ReplyEnvelope, SessionMail,
+    PartitionMail, ReplyEnvelope, RequestEnvelope, SessionMail, SharedKeeper,
 };
 use album_passes::{Desk, NamesWrites, Pass, meet};
 use album_stamps::{ClientNo, Refusal};
@@ -52,6 +52,8 @@ pub struct PartitionChannel<J: DeskNames> {
     /// Whether it may give itself the replies of a read's second round, where it knows them all.
     pub(crate) repeats: bool,
     breakage: Arc<Breakage, Global>,
+    /// The keepers of the partitions, in order, where the session may let them take its messages in its own thread.
+    keepers: Vec<Arc<SharedKeeper<J>, Global>>,
 }
 
 impl<J: DeskNames> Model for PartitionChannel<J> {
@@ -67,7 +69,8 @@ impl<J: DeskNames> Model for PartitionChannel<J> {
     ghost invariant = { λ c. ((arc_value c.desk).table ≡ J.table)
         × IsChannel J.table c.client c.parts c.checked c.pass
         × All (IfSighted J.terms.limit c.pass.cut) c.sightings.items
-        × (vec_len c.to ≡ c.parts) };
+        × (vec_len c.to ≡ c.parts)
+        × ((arc_value c.desk).terms ≡ J.terms) };
 }
 
 // By hand, so that what lets it go is proved here, and not again in each crate above.
@@ -89,6 +92,7 @@ impl<J: DeskNames> Drop for PartitionChannel<J> {
             sightings,
             repeats: _,
             breakage,
+            keepers,
         } = self;
         drop(desk);
         drop(pass);
@@ -97,11 +101,12 @@ impl<J: DeskNames> Drop for PartitionChannel<J> {
         drop(heard);
         drop(sightings);
         drop(breakage);
+        drop(keepers);
     }
 }
 
 impl<J: DeskNames> PartitionChannel<J> {
-    /// This client with this pass.
+    /// This client with this pass. It lets these keepers take its messages in its own thread, if there are any.
     pub fn new(
         alloc: Global,
         desk: Arc<Desk, Global>,
@@ -113,8 +118,10 @@ impl<J: DeskNames> PartitionChannel<J> {
         from: Receiver<SessionMail<J>>,
         repeats: bool,
         breakage: Arc<Breakage, Global>,
+        keepers: Vec<Arc<SharedKeeper<J>, Global>>,
     ) -> PartitionChannel<J>
         requires table { (arc_value desk).table ≡ J.table }
+        requires terms { (arc_value desk).terms ≡ J.terms }
         requires is { IsChannel J.table client parts checked pass }
         requires mailboxes { vec_len to ≡ parts }
         ensures { result ≡ record { client = client; cut = pass.cut } }
@@ -135,6 +142,7 @@ impl<J: DeskNames> PartitionChannel<J> {
             sightings: Vec::new(alloc),
             repeats,
             breakage,
+            keepers,
         }
     }
 
@@ -199,7 +207,8 @@ impl<J: DeskNames> PartitionChannel<J> {
         Ok(())
     }
 
-    /// Sends to the partition by this mailbox from now on, and gives the one that it had, if there is the partition.
+    /// Sends to the partition by this mailbox from now on, and gives the one that it had, if there is the partition. Then
+    /// all that the session asks goes by mailboxes, so that whoever relays it sees it.
     pub fn relay(
         &mut self,
         part: u16,
@@ -210,6 +219,7 @@ impl<J: DeskNames> PartitionChannel<J> {
         ensures same { self.new ≡ self.old }
     {
         let place = self.to.get_mut(usize::from(part))?;
+        self.keepers.clear();
         Some(mem::replace(place, mailbox))
     }
 
@@ -260,6 +270,28 @@ impl<J: DeskNames> PartitionChannel<J> {
                 Err(Refusal::Closed)
             }
         }
+    }
+
+    /// Has the partition take the envelopes: in this thread, where the session may, and else by its mailbox.
+    pub(crate) fn give<R: Wait>(
+        &mut self,
+        rt: &R,
+        part: u16,
+        envelopes: Vec<RequestEnvelope<J>>,
+    ) -> Result<(), Refusal>
+        ensures refused { IfErr result IsClosedOrOutOfMemory }
+        ensures same { self.new ≡ self.old }
+    {
+        let left = match self.keepers.get(usize::from(part)) {
+            None => envelopes,
+            Some(keeper) => {
+                keeper.receive_all(rt, self.alloc, &self.desk, envelopes, &mut self.heard)?
+            }
+        };
+        if left.is_empty() {
+            return Ok(());
+        }
+        self.send(rt, part, PartitionMail::Envelopes(left))
     }
 
     /// What comes next. `Closed` where all who could send are gone, or the service is broken.

@@ -11,7 +11,7 @@ use crate::channel::PartitionChannel;
 use crate::reads::begins_read;
 use crate::sightings::sighting_of;
 use album_calls::Message;
-use album_keepers::{DeskNames, PartitionMail, ReplyEnvelope, RequestEnvelope};
+use album_keepers::{DeskNames, ReplyEnvelope, RequestEnvelope};
 use album_passes::Pass;
 use album_stamps::Refusal;
 use std::sync::Wait;
@@ -74,7 +74,7 @@ impl<J: DeskNames> PartitionChannel<J> {
         self.send_round(rt, sent)
     }
 
-    /// Sends the messages: to each partition one mail, with those that go there.
+    /// Sends the messages: to each partition at once those that go there.
     fn post_all<R: Wait>(&mut self, rt: &R, messages: &[Message]) -> Result<(), Refusal>
         requires shown { All (Shows self.old.cut) messages.now }
         ensures refused { IfErr result IsClosedOrOutOfMemory }
@@ -86,7 +86,7 @@ impl<J: DeskNames> PartitionChannel<J> {
         Ok(())
     }
 
-    /// Sends those of the messages that go to the partition, as one mail.
+    /// Sends those of the messages that go to the partition, all at once.
     fn post<R: Wait>(&mut self, rt: &R, part: u16, messages: &[Message]) -> Result<(), Refusal>
         requires shown { All (Shows self.old.cut) messages.now }
         ensures refused { IfErr result IsClosedOrOutOfMemory }
@@ -96,7 +96,7 @@ impl<J: DeskNames> PartitionChannel<J> {
         if envelopes.is_empty() {
             return Ok(());
         }
-        self.send(rt, part, PartitionMail::Envelopes(envelopes))
+        self.give(rt, part, envelopes)
     }
 
     /// Those of the messages that go to the partition, each with a pass.

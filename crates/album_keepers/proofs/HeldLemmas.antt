@@ -1,17 +1,27 @@
 -- What replies rest on stays among the entries as more are added. For `Outgoing`, `entry_of` and the log's thread.
-use Rattle.std.proofs.Common.{◌≡◌, ℕ, Bool, true, false, List, [], ◌∷◌, ◌++◌, All, Contains, Option, Some, None, if◌then◌else◌, refl, sym, ap, subst, arith, eqb-true}
+use Rattle.std.proofs.Common.{◌≡◌, ℕ, Bool, true, false, List, [], ◌∷◌, ◌++◌, ◌==◌, ◌&&◌, All, Contains, Option, Some, None, if◌then◌else◌, option_map, IfSome, refl, sym, ap, subst, arith, eqb-true}
 use Rattle.std.specs.List.{find}
 use Rattle.std.proofs.lemmas.List.Elements.{All-push, All-weaker, Contains-append_left, Contains-append_right}
+use Rattle.album_items.specs.Places.{is_placed}
 use Rattle.album_calls.specs.Nodes.{is_part}
+use Rattle.album_calls.specs.declared.messages.Body.{Body}
+use Rattle.album_calls.specs.declared.messages.Body.TheVariants as body
+use Rattle.album_calls.specs.declared.messages.Message.{Message}
 use Rattle.album_calls.specs.declared.nodes.Node.{Node}
 use Rattle.album_calls.specs.declared.nodes.Node.TheVariants.{Part, Client}
+use Rattle.album_calls.specs.declared.replies.Reply.{Reply}
+use Rattle.album_calls.specs.declared.replies.Reply.TheVariants.{Version, NotPrepared, Committed, Discarded, Clash, Gone}
+use Rattle.album_calls.specs.declared.requests.Request.{Request}
+use Rattle.album_calls.specs.declared.requests.Request.TheVariants.{Prepare, PrepareOn, Commit, Get, Check}
+use Rattle.album_partition.specs.Answers.{Action, action_of, answer, commit_by, get_by, nothing, on_body, on_request, reply_to, says}
 use Rattle.album_partition.specs.History.{kept_by, kept_mark}
 use Rattle.album_partition.specs.Marks.{prepares, state_of}
+use Rattle.album_partition.specs.Partition.{PartitionState, read_at, value_at}
 use Rattle.album_partition.specs.declared.marks.Mark.{Mark}
 use Rattle.album_terminate.specs.declared.deciding.StampState.{StampState}
 use Rattle.album_terminate.specs.declared.deciding.StampState.TheVariants as state
 use Rattle.album_keepers.specs.Envelopes.{ReplyEnvelopeState}
-use Rattle.album_keepers.specs.Held.{stamp_prepared, IsEntryOf, IsCoveredBy, IsCovered, AreCovered}
+use Rattle.album_keepers.specs.Held.{may_be_prepared, may_prepare, stamp_prepared, stamp_replied, IsEntryOf, IsCoveredBy, IsCovered, AreCovered, IsFree}
 use Rattle.album_keepers.specs.declared.log_entries.LogEntry.{LogEntry}
 
 -- ---- in lists
@@ -108,3 +118,80 @@ pub group_added : (old now : LogEntry → Type 0) → ((e : LogEntry) → old e 
     (entries : List LogEntry) → All (All old) group → All now entries → All (All now) (group ++ entries ∷ [])
 group_added old now f group entries h mine =
     All-push (All now) group entries (group_weaker old now f group h) mine
+
+-- ---- what is never said to be prepared
+
+free_says : (said reply : Reply) → stamp_replied said ≡ None → Some said ≡ Some reply → stamp_replied reply ≡ None
+free_says said reply h e =
+    let same : said ≡ reply = cc in
+    subst (λ (r : Reply). stamp_replied r ≡ None) same h
+
+free_either : (b : Bool) (x y : Action) (reply : Reply) → (x.reply ≡ Some reply → stamp_replied reply ≡ None)
+    → (y.reply ≡ Some reply → stamp_replied reply ≡ None) → (if b then x else y).reply ≡ Some reply
+    → stamp_replied reply ≡ None
+free_either true x y reply h k e = h e
+free_either false x y reply h k e = k e
+
+free_commit : (s : StampState) (stamp : ℕ) (reply : Reply) → (commit_by s stamp).reply ≡ Some reply → stamp_replied reply ≡ None
+free_commit state.Unknown stamp reply e = free_says (NotPrepared stamp) reply refl e
+free_commit state.Pending stamp reply e = free_says (Committed stamp) reply refl e
+free_commit state.Committed stamp reply e = free_says (Committed stamp) reply refl e
+free_commit state.Discarded stamp reply e = free_says (Discarded stamp) reply refl e
+
+free_get : (p : PartitionState) (item : ℕ) (at : Option ℕ) (reply : Reply) → (get_by p item at).reply ≡ Some reply
+    → stamp_replied reply ≡ None
+free_get p item None reply e = free_says (Gone item) reply refl e
+free_get p item (Some stamp) reply e = free_says (Version item stamp (value_at p item stamp)) reply refl e
+
+free_request : (p : PartitionState) (request : Request) (reply : Reply) → may_be_prepared request ≡ false
+    → (on_request p request).reply ≡ Some reply → stamp_replied reply ≡ None
+free_request p (Prepare stamp writes items) reply h e = absurd (cc)
+free_request p (PrepareOn stamp writes items bases) reply h e = absurd (cc)
+free_request p (Check stamp) reply h e = absurd (cc)
+free_request p (Commit stamp) reply h e =
+    free_either (stamp == 0) (says Clash) (commit_by (state_of p.marks stamp) stamp) reply
+    (free_says Clash reply refl) (free_commit (state_of p.marks stamp) stamp reply) e
+free_request p (Get item stamps) reply h e =
+    free_either (is_placed p.number p.parts item) (get_by p item (read_at p.marks item stamps)) (says Clash) reply
+    (free_get p item (read_at p.marks item stamps) reply) (free_says Clash reply refl) e
+
+free_body : (p : PartitionState) (from : Node) (b : Body) (reply : Reply) → may_prepare b ≡ false
+    → (on_body p from b).reply ≡ Some reply → stamp_replied reply ≡ None
+free_body p from (body.Request request) reply h e = free_request p request reply h e
+free_body p from (body.Reply said) reply h e = absurd (cc)
+
+free_mapped : (p : PartitionState) (m r : Message) (o : Option Reply) → ((said : Reply) → o ≡ Some said → stamp_replied said ≡ None)
+    → option_map (reply_to p m) o ≡ Some r → stamp_prepared r.body ≡ None
+free_mapped p m r None h e = absurd (cc)
+free_mapped p m r (Some said) h e =
+    let same : reply_to p m said ≡ r = cc in
+    subst (λ (x : Message). stamp_prepared x.body ≡ None) same (h said refl)
+
+-- a reply to a Commit or a Get says of no stamp that it is prepared
+pub free_reply : (p : PartitionState) (m r : Message) → may_prepare m.body ≡ false → answer p m ≡ Some r
+    → stamp_prepared r.body ≡ None
+free_reply p m r h e =
+    free_mapped p m r (action_of p m).reply
+    (λ said is. free_either (is_part m.to p.number) (on_body p m.from m.body) nothing said
+    (free_body p m.from m.body said h) (λ none. absurd (cc)) is) e
+
+-- a reply more, if it was added
+free_more : (b : Bool) (rs now : List ReplyEnvelopeState) (r : ReplyEnvelopeState) → All IsFree rs → IsFree r
+    → now ≡ (if b then rs ++ r ∷ [] else rs) → All IsFree now
+free_more true rs now r h free is = subst (All IsFree) (sym is) (All-push IsFree rs r h free)
+free_more false rs now r h free is = subst (All IsFree) (sym is) h
+
+-- the second of two is false
+second_false : (a b : Bool) → a ≡ true → false ≡ (a && b) → b ≡ false
+second_false true b e h = sym h
+second_false false b e h = absurd (cc (e))
+
+-- the replies stay free where a service with a log has this taken in place
+pub free_in_place : (logged added : Bool) (rs now : List ReplyEnvelopeState) (o : Option ReplyEnvelopeState)
+    (r : ReplyEnvelopeState) (m : Message) → All IsFree rs → logged ≡ true → false ≡ (logged && may_prepare m.body)
+    → IfSome o (λ some. (p : PartitionState) × (answer p m ≡ Some some.reply)) → o ≡ Some r
+    → now ≡ (if added then rs ++ r ∷ [] else rs) → All IsFree now
+free_in_place logged added rs now o r m h log direct said is more =
+    let it : (p : PartitionState) × (answer p m ≡ Some r.reply) =
+    subst (λ (x : Option ReplyEnvelopeState). IfSome x (λ some. (p : PartitionState) × (answer p m ≡ Some some.reply))) is said in
+    free_more added rs now r h (free_reply it.0 m r.reply (second_false logged (may_prepare m.body) log direct) it.1) more

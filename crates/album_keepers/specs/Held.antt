@@ -1,11 +1,13 @@
 -- What a log keeps of a partition, and which replies wait for it: those that say that a stamp is prepared.
-use Rattle.std.specs.Prelude.{◌≡◌, ℕ, Bool, true, List, All, Contains, Option, Some, None}
+use Rattle.std.specs.Prelude.{◌≡◌, ℕ, Bool, true, false, List, All, Contains, Option, Some, None}
 use Rattle.album_calls.specs.declared.messages.Body.{Body}
 use Rattle.album_calls.specs.declared.messages.Body.TheVariants as body
 use Rattle.album_calls.specs.declared.messages.Message.{Message}
 use Rattle.album_calls.specs.declared.nodes.Node.TheVariants.{Part}
 use Rattle.album_calls.specs.declared.nodes.Vote.{Vote}
 use Rattle.album_calls.specs.declared.nodes.Vote.TheVariants as vote
+use Rattle.album_calls.specs.declared.requests.Request.{Request}
+use Rattle.album_calls.specs.declared.requests.Request.TheVariants as request
 use Rattle.album_calls.specs.declared.replies.Reply.{Reply}
 use Rattle.album_calls.specs.declared.replies.Reply.TheVariants as reply
 use Rattle.album_partition.specs.Marks.{prepares}
@@ -37,6 +39,18 @@ stamp_replied (reply.Gone item) = None
 abbrev pub stamp_prepared : Body → Option ℕ
 stamp_prepared (body.Request request) = None
 stamp_prepared (body.Reply reply) = stamp_replied reply
+
+-- whether there may be such a reply to it: not to a Commit or a Get
+abbrev pub may_be_prepared : Request → Bool
+may_be_prepared (request.Prepare stamp writes items) = true
+may_be_prepared (request.PrepareOn stamp writes items bases) = true
+may_be_prepared (request.Commit stamp) = false
+may_be_prepared (request.Get item stamps) = false
+may_be_prepared (request.Check stamp) = true
+
+abbrev pub may_prepare : Body → Bool
+may_prepare (body.Request request) = may_be_prepared request
+may_prepare (body.Reply reply) = true
 
 -- ---- what it rests on
 

@@ -5,6 +5,12 @@
 /// in one mail enter one after another, and leave when the replies to all of them are sent. Registrations
 /// and control requests aren't numbered, and don't call it.
 pub trait Gate {
+    /// Whether it sees no message, and holds no partition up. Then a session may let a partition take its messages in
+    /// the session's own thread, and neither `enter` nor `leave` is called for these.
+    fn is_open(&self) -> bool {
+        false
+    }
+
     fn enter(&self, part: u16, number: u64);
 
     fn leave(&self, part: u16, number: u64);
@@ -22,6 +28,10 @@ pub trait Gate {
 pub struct Open;
 
 impl Gate for Open {
+    fn is_open(&self) -> bool {
+        true
+    }
+
     fn enter(&self, _part: u16, _number: u64) {}
 
     fn leave(&self, _part: u16, _number: u64) {}

@@ -19,8 +19,9 @@
 mod control;
 mod envelopes;
 
-// A partition with the owner of its history.
+// A partition with the owner of its history, and the lock under which threads share it.
 mod keeper;
+mod shared_keeper;
 
 // What a service with a log keeps before it is said.
 mod held;
@@ -49,4 +50,5 @@ pub use load::Load;
 pub use log_entries::{LogEntry, MarkLog, NoLog, NotKept};
 pub use mailbox::{Inbox, PartitionMail, SessionMail};
 pub use names::DeskNames;
+pub use shared_keeper::SharedKeeper;
 pub use start::{start_all, start_log};

@@ -13,6 +13,7 @@ use crate::logger::run_log;
 use crate::mailbox::{Inbox, PartitionMail};
 use crate::names::DeskNames;
 use crate::outbox::{Outbox, copies_of};
+use crate::shared_keeper::SharedKeeper;
 use crate::thread::PartitionLoop;
 use album_partition::Partition;
 use album_passes::{Desk, Owner};
@@ -24,8 +25,8 @@ use std::thread::{JoinHandle, Threads, spawn};
 use std::time;
 
 /// Starts the threads of all partitions, as they open, the last one first, and puts them into
-/// `threads`. What they prepare goes to the log, if there is one. Where a thread can't be had, those that
-/// run stay there.
+/// `threads`, and their keepers into `keepers`. What they prepare goes to the log, if there is one. Where a
+/// thread can't be had, those that run stay there.
 ///
 /// # Errors
 ///
@@ -47,6 +48,7 @@ pub fn start_all<
     mut mails: Vec<Receiver<PartitionMail<J>>>,
     log: &Option<Sender<HeldMail<J>>>,
     threads: &mut Vec<JoinHandle<()>>,
+    keepers: &mut Vec<Arc<SharedKeeper<J>, Global>>,
 ) -> Result<(), AllocError>
     requires table { (arc_value desk.now).table ≡ J.table }
     requires terms { (arc_value desk.now).terms ≡ J.terms }
@@ -70,6 +72,7 @@ pub fn start_all<
             &mut mails,
             log,
             threads,
+            keepers,
         )?;
     }
     Ok(())
@@ -93,6 +96,7 @@ fn start_last<
     mails: &mut Vec<Receiver<PartitionMail<J>>>,
     log: &Option<Sender<HeldMail<J>>>,
     threads: &mut Vec<JoinHandle<()>>,
+    keepers: &mut Vec<Arc<SharedKeeper<J>, Global>>,
 ) -> Result<(), AllocError>
     requires table { (arc_value desk.now).table ≡ J.table }
     requires terms { (arc_value desk.now).terms ≡ J.terms }
@@ -103,6 +107,7 @@ fn start_last<
 {
     // Room first: a thread that runs is kept.
     threads.reserve(1)?;
+    let logged = log.is_some();
     let shared = Shared::<J, G>::copied(alloc, desk, gate, breakage, mailboxes, log)?;
     let Ok(keeper) = last_keeper::<J>(part, owners, partitions) else {
         drop(shared);
@@ -113,6 +118,8 @@ fn start_last<
         drop(shared);
         return Err(AllocError);
     };
+    let keeper = Arc::new(alloc, SharedKeeper::new(keeper, logged))?;
+    keepers.push(Arc::try_clone(&keeper)?)?;
     threads.push_reserved(start(rt, alloc, part, keeper, shared, mails)?);
     Ok(())
 }
@@ -192,7 +199,7 @@ fn start<
     rt: R,
     alloc: Global,
     part: u16,
-    keeper: PartitionKeeper<J>,
+    keeper: Arc<SharedKeeper<J>, Global>,
     shared: Shared<J, G>,
     mails: Receiver<PartitionMail<J>>,
 ) -> Result<JoinHandle<()>, AllocError> {
@@ -205,7 +212,7 @@ fn run_alone<J: DeskNames, R: Wait + time::Clock + Copy, G: Gate + Drop>(
     rt: R,
     alloc: Global,
     part: u16,
-    keeper: PartitionKeeper<J>,
+    keeper: Arc<SharedKeeper<J>, Global>,
     shared: Shared<J, G>,
     mails: Receiver<PartitionMail<J>>,
 ) {

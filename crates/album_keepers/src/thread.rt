@@ -7,26 +7,24 @@ use crate::control::ControlRequest;
 use crate::envelopes::RequestEnvelope;
 use crate::gate::Gate;
 use crate::held::Outgoing;
-use crate::keeper::PartitionKeeper;
-use crate::load::{Load, bytes_of};
+use crate::load::Load;
 use crate::mailbox::{Inbox, PartitionMail};
 use crate::names::DeskNames;
 use crate::outbox::Outbox;
+use crate::shared_keeper::SharedKeeper;
 use album_passes::Desk;
 use std::alloc::{AllocError, Global};
 use std::sync::{Arc, Wait};
 use std::time;
 
 /// A partition's loop: the partition with the owner of its history, the mailboxes that it sends to, and how many
-/// messages it took. It sets the flag `breakage` where it has no memory to continue.
+/// messages came by its own. It sets the flag `breakage` where it has no memory to continue.
 #[derive(Drop)]
 pub(crate) struct PartitionLoop<J: DeskNames> {
     part: u16,
-    keeper: PartitionKeeper<J>,
+    keeper: Arc<SharedKeeper<J>, Global>,
     outbox: Outbox<J>,
     messages: u64,
-    /// About how many bytes the writes take that it was asked to prepare.
-    bytes: u64,
     breakage: Arc<Breakage, Global>,
 }
 
@@ -34,7 +32,7 @@ impl<J: DeskNames> PartitionLoop<J> {
     /// The loop of the partition of this number.
     pub(crate) fn new(
         part: u16,
-        keeper: PartitionKeeper<J>,
+        keeper: Arc<SharedKeeper<J>, Global>,
         outbox: Outbox<J>,
         breakage: Arc<Breakage, Global>,
     ) -> PartitionLoop<J> {
@@ -43,14 +41,29 @@ impl<J: DeskNames> PartitionLoop<J> {
             keeper,
             outbox,
             messages: 0,
-            bytes: 0,
             breakage,
         }
     }
 
-    /// Takes one mail after another, until it is to leave or all senders are gone. Where it has no memory for what
-    /// others wait for, it breaks the service, and ends.
+    /// Takes one mail after another, until it is to leave or all senders are gone. From then on no session lets the
+    /// keeper take anything either.
     pub(crate) fn run<R: Wait + time::Clock, G: Gate>(
+        &mut self,
+        rt: &R,
+        alloc: Global,
+        desk: &Desk,
+        gate: &G,
+        inbox: &mut Inbox<PartitionMail<J>>,
+    )
+        requires table { desk.now.table ≡ J.table }
+        requires terms { desk.now.terms ≡ J.terms }
+    {
+        self.take_all(rt, alloc, desk, gate, inbox);
+        self.keeper.lock(rt).runs = false;
+    }
+
+    /// Takes one mail after another. Where it has no memory for what others wait for, it breaks the service, and ends.
+    fn take_all<R: Wait + time::Clock, G: Gate>(
         &mut self,
         rt: &R,
         alloc: Global,
@@ -100,8 +113,11 @@ impl<J: DeskNames> PartitionLoop<J> {
             PartitionMail::Register(client, end) => self.outbox.register(client, end)?,
             PartitionMail::Forget(client) => self.outbox.forget(client),
             // Whoever wants the figures does without them, where there is no memory to send them.
-            PartitionMail::Figures(end) => drop(end.send(rt, self.keeper.figures())),
-            PartitionMail::Load(end) => drop(end.send(rt, self.load())),
+            PartitionMail::Figures(end) => {
+                let figures = self.keeper.lock(rt).keeper.figures();
+                drop(end.send(rt, figures));
+            }
+            PartitionMail::Load(end) => drop(end.send(rt, self.load(rt))),
             PartitionMail::ControlRequest(request) => {
                 self.inquire(rt, alloc, desk, Box::into_inner(request))?;
             }
@@ -113,12 +129,13 @@ impl<J: DeskNames> PartitionLoop<J> {
     }
 
     /// How much of its epoch the partition has taken up.
-    fn load(&self) -> Load {
-        let (marks, limit) = self.keeper.load();
+    fn load<R: Wait>(&self, rt: &R) -> Load {
+        let locked = self.keeper.lock(rt);
+        let (marks, limit) = locked.keeper.load();
         Load {
             marks,
             limit,
-            bytes: self.bytes,
+            bytes: locked.bytes,
         }
     }
 
@@ -173,19 +190,22 @@ impl<J: DeskNames> PartitionLoop<J> {
     {
         gate.enter(self.part, self.messages);
         self.messages = self.messages.saturating_add(1);
-        self.bytes = self.bytes.saturating_add(bytes_of(envelope.message()));
         let (from, tag) = (envelope.message().from(), envelope.message().tag());
-        match self.keeper.receive(desk, envelope) {
+        let mut locked = self.keeper.lock(rt);
+        match locked.receive(desk, envelope) {
             Ok(None) => Ok(()),
             Ok(Some(reply)) => {
                 let entry = if outgoing.logged() {
-                    self.keeper.entry_of(&reply)?
+                    locked.keeper.entry_of(&reply)?
                 } else {
                     None
                 };
                 outgoing.add(reply, entry)
             }
-            Err(_) => self.outbox.refuse(rt, from, tag),
+            Err(_) => {
+                drop(locked);
+                self.outbox.refuse(rt, from, tag)
+            }
         }
     }
 
@@ -206,7 +226,9 @@ impl<J: DeskNames> PartitionLoop<J> {
     {
         let client = request.client();
         let mut envelopes = Vec::new(alloc);
-        let reply = self.keeper.inquire(alloc, desk, request, &mut envelopes);
+        let mut locked = self.keeper.lock(rt);
+        let reply = locked.keeper.inquire(alloc, desk, request, &mut envelopes);
+        drop(locked);
         for envelope in envelopes {
             let Ok(()) = self.post(rt, envelope) else {
                 drop(reply);
@@ -223,7 +245,7 @@ impl<J: DeskNames> PartitionLoop<J> {
     /// `AllocError`, where there is no memory for it.
     fn post<R: Wait>(&self, rt: &R, envelope: RequestEnvelope<J>) -> Result<(), AllocError> {
         let entry = if self.outbox.is_logged() {
-            self.keeper.entry_for(envelope.message())?
+            self.keeper.lock(rt).keeper.entry_for(envelope.message())?
         } else {
             None
         };

@@ -13,7 +13,7 @@ use album_board::Board;
 use album_channels::PartitionChannel;
 use album_eval::Policy;
 use album_keepers::{
-    Breakage, Gate, HeldMail, MarkLog, NoLog, PartitionMail, start_all, start_log,
+    Breakage, Gate, HeldMail, MarkLog, NoLog, PartitionMail, SharedKeeper, start_all, start_log,
 };
 use album_passes::{Desk, Pass};
 use album_sessions::{Hints, ServiceNames, Session, Stripes};
@@ -50,6 +50,8 @@ pub struct Service<J: ServiceNames> {
     /// The thread of the log, if there is one.
     logging: Option<JoinHandle<()>>,
     breakage: Arc<Breakage, Global>,
+    /// The keepers of the partitions, the last one first, where sessions may let them take messages.
+    keepers: Vec<Arc<SharedKeeper<J>, Global>>,
     ghost table_is: { (arc_value desk).table ≡ J.table },
     ghost terms_are: { (arc_value desk).terms ≡ J.terms },
     ghost policy_is: { policy ≡ J.policy },
@@ -64,7 +66,7 @@ pub struct Service<J: ServiceNames> {
 
 impl<J: ServiceNames + Send + 'static> Service<J> {
     /// Starts a thread for each partition of what was opened. Each message that one takes passes the
-    /// gate.
+    /// gate. Where this is open, sessions let partitions take their messages in their own threads.
     ///
     /// # Errors
     ///
@@ -112,13 +114,14 @@ impl<J: ServiceNames + Send + 'static> Service<J> {
         let board = Board::open(list, pass.split(&desk));
         let shared = shared_of(alloc, board, AuditBook::new(blanks), hints)?;
         let desk = Arc::new(alloc, desk)?;
+        let is_open = gate.is_open();
         let gate = Arc::new(alloc, gate)?;
         let seed = Mutex::new(Seed {
             pass,
             of: PhantomData,
         });
         let (mailboxes, mails) = mailboxes_for(alloc, owners.len())?;
-        let mut threads = Vec::new(alloc);
+        let (mut threads, mut keepers) = (Vec::new(alloc), Vec::new(alloc));
         let (to_log, logging) = begin_log(rt, alloc, log, &gate, &shared.breakage)?;
         let started = start_all(
             rt,
@@ -132,12 +135,16 @@ impl<J: ServiceNames + Send + 'static> Service<J> {
             mails,
             &to_log,
             &mut threads,
+            &mut keepers,
         );
         // Its thread ends once the partitions' have, since nobody else can send to it.
         drop(to_log);
         if started.is_err() {
             leave_all(&rt, &mailboxes, threads, logging);
             return Err(Refusal::OutOfMemory);
+        }
+        if !is_open {
+            keepers.clear();
         }
         let Shared {
             board,
@@ -163,6 +170,7 @@ impl<J: ServiceNames + Send + 'static> Service<J> {
             threads,
             logging,
             breakage,
+            keepers,
         })
     }
 
@@ -186,6 +194,7 @@ impl<J: ServiceNames + Send + 'static> Service<J> {
             threads,
             logging,
             breakage: _,
+            keepers: _,
         } = self;
         leave_all(rt, &mailboxes, threads, logging);
         book.lock(rt).totals()
@@ -248,6 +257,7 @@ impl<J: ServiceNames> Service<J> {
         let desk = Arc::try_clone(&self.desk)?;
         let breakage = Arc::try_clone(&self.breakage)?;
         let to = copies_of(self.alloc, &self.mailboxes)?;
+        let keepers = in_order(self.alloc, &self.keepers)?;
         let (end, from) = unbounded(self.alloc)?;
         let mut pass = self.seed.lock(rt).split(&desk);
         let client = desk.draw(rt, &mut pass)?;
@@ -262,6 +272,7 @@ impl<J: ServiceNames> Service<J> {
             from,
             self.repeats,
             breakage,
+            keepers,
         );
         if channel.register(rt, end).is_err() {
             channel.leave(rt);
@@ -374,6 +385,18 @@ fn copies_of<J: ServiceNames>(
     let mut copies = Vec::new(alloc);
     for mailbox in mailboxes {
         copies.push(mailbox.clone()?)?;
+    }
+    Ok(copies)
+}
+
+/// The same keepers once more, from the last to the first: so those of the first partitions come first.
+fn in_order<J: ServiceNames>(
+    alloc: Global,
+    keepers: &[Arc<SharedKeeper<J>, Global>],
+) -> Result<Vec<Arc<SharedKeeper<J>, Global>>, AllocError> {
+    let mut copies = Vec::with_capacity(alloc, keepers.len())?;
+    for keeper in keepers.iter().rev() {
+        copies.push(Arc::try_clone(keeper)?)?;
     }
     Ok(copies)
 }

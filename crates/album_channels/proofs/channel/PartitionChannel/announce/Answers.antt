@@ -10,4 +10,5 @@ invariant_of-self g c = (
   all_sighted g.J.DeskNames.terms.limit c.self.inside.pass.cut c.announce.new.self.cut c.self.inside.sightings.items
       c.announce.ensures.grown c.self.invariant.2,
   c.self.invariant.3,
+  c.self.invariant.4,
 )

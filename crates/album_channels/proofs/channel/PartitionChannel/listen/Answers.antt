@@ -16,4 +16,5 @@ invariant_of-self g c = (
   all_sighted g.J.DeskNames.terms.limit c.self.inside.pass.cut c.listen.new.pass.cut c.self.inside.sightings.items
       c.listen.ensures.grown c.self.invariant.2,
   c.self.invariant.3,
+  c.self.invariant.4,
 )
