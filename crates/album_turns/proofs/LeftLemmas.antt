@@ -1,15 +1,20 @@
 -- What the partitions gave one after another is a part of the cut that was seen in the end, and has all of the first.
-use Rattle.std.proofs.Common.{◌≡◌, ℕ, zero, suc, ◌+◌, ◌<◌, ◌≤◌, Bool, true, List, [], ◌∷◌, ◌++◌, length, max, ⊎_elim, refl, sym, ap, ◌∙◌, subst, arith, length-append}
+use Rattle.std.proofs.Common.{◌≡◌, ◌≢◌, ◌⊎◌, inl, inr, ℕ, zero, suc, ◌+◌, ◌<◌, ◌≤◌, true, List, [], ◌∷◌, ◌++◌, length, ⊎_elim, refl, sym, ap, ◌∙◌, subst, arith, length-append}
+use native.Mathlib.Decide.{ℕ_discrete}
+use mathlib.Core.Logic.{dite}
 use Rattle.std.specs.List.{list_any}
 use Rattle.std.proofs.lemmas.Bool.{cases_lt}
 use Rattle.std.proofs.lemmas.List.{get_or_past}
 use Rattle.album_stamps.specs.Stamps.{counter_of}
+use Rattle.album_stamps.specs.declared.limits.TheConstants.{MAX_PARTS}
+use Rattle.album_stamps.specs.declared.refusals.Refusal.{Refusal}
+use Rattle.album_stamps.specs.declared.refusals.Refusal.TheVariants.{BadOpening, NoSuchPart}
 use Rattle.album_items.specs.declared.openings.Opening.{Opening}
 use Rattle.album_partition.specs.Marks.{is_mark_of}
 use Rattle.album_partition.specs.declared.marks.Mark.{Mark}
 use Rattle.album_passes.specs.Cuts.{Cut, Extends, IsPrefix, IsSound, marks_at, prefix_at}
 use Rattle.album_passes.proofs.CutLemmas.{extends_self, extends_trans}
-use Rattle.album_passes.proofs.PrefixLemmas.{prefix_self, prefix_trans}
+use Rattle.album_passes.proofs.PrefixLemmas.{any_more, prefix_self, prefix_trans}
 use Rattle.album_epochs.specs.Carried.{IsLeft}
 use Rattle.album_epochs.specs.Next.{IsOpeningAfter}
 use Rattle.album_epochs.proofs.NextLemmas.{next_rows, next_stamps}
@@ -17,7 +22,10 @@ use Rattle.album_sessions.specs.Sessions.{SessionState}
 use Rattle.album_sessions.specs.Steps.{IsStill}
 use Rattle.album_sessions.proofs.AttemptLemmas.{still_on}
 use Rattle.album_sessions.proofs.SessionLemmas.{on_self}
-use Rattle.album_turns.specs.Left.{AreBetween, IsFoundBy, IsLeftTo}
+use Rattle.album_channels.specs.Channels.{IsClosedOrOutOfMemory}
+use Rattle.album_turns.specs.Left.{AreBetween, IsCounterIn, IsFoundBy, IsLeftTo, IsUnleft}
+use Rattle.album_turns.specs.Left.IsCounterIn.{Zero, Of}
+use Rattle.album_turns.specs.Left.IsUnleft.{NoParts, ManyParts, OtherParts, Unheard}
 
 -- the histories of so many partitions, the first ones, which were given between the two cuts
 pub record AreFirst (old now : Cut) (count : ℕ) (histories : List (List Mark)) : Type 0 where
@@ -87,6 +95,7 @@ left_to begun now o next hs greatest old new x between count items parts above a
   limit = after.limit;
   policy = after.policy;
   checked = after.checked;
+  root = after.root;
   first = omega (arith, after.first);
   above = λ part stamp e. (let low : stamp ≤ greatest = above part stamp e in omega (arith, low, after.first));
   rows = next_rows left is_left o.items hs next.items (x.opening ∙ items) refl after.rows;
@@ -142,6 +151,7 @@ left_less c d o next x to = record {
   limit = to.limit;
   policy = to.policy;
   checked = to.checked;
+  root = to.root;
   first = to.first;
   above = to.above;
   rows = to.rows;
@@ -153,3 +163,40 @@ pub found_by : (old mid : SessionState) (listened : Cut) (o next : Opening) → 
 found_by old mid listened o next still heard left items parts =
     let to = left (still.on.grown.opening ∙ items) (still.on.grown.parts ∙ parts) in
     (left_less old.cut mid.cut o next still.on.grown to, left_less listened mid.cut o next heard to)
+
+-- ---- why nothing is found
+
+-- a counter that a history shows is one of the cut
+pub counter_in : (old now : Cut) (hs : List (List Mark)) (greatest : ℕ) → AreBetween old now hs
+    → (greatest ≢ 0 → (part : ℕ) × (list_any (is_mark_of greatest) (marks_at hs part) ≡ true))
+    → IsCounterIn now (counter_of greatest)
+counter_in old now hs greatest between reached = dite (ℕ_discrete greatest 0)
+    (λ (none : greatest ≡ 0). subst (λ (n : ℕ). IsCounterIn now (counter_of n)) (sym none) Zero)
+    (λ (some : greatest ≢ 0). let at = reached some in
+    ⊎_elim (λ (l : at.0 < length hs). Of at.0 greatest
+    (any_more (is_mark_of greatest) (marks_at hs at.0) (prefix_at now at.0) (between at.0 l).1 at.1))
+    (λ (past : length hs ≤ at.0).
+    let nothing : list_any (is_mark_of greatest) [] ≡ true =
+    subst (λ (ms : List Mark). list_any (is_mark_of greatest) ms ≡ true) (get_or_past hs at.0 [] past) at.1 in
+    absurd (cc (nothing)))
+    (cases_lt at.0 (length hs)))
+
+pub bad_parts : (cut : Cut) (o : Opening) (why : Refusal) → (why ≡ BadOpening) × ((o.parts ≡ 0) ⊎ (MAX_PARTS < o.parts))
+    → IsUnleft cut o why
+bad_parts cut o why (is, parts) = subst (IsUnleft cut o) (sym is) (⊎_elim (λ none. NoParts none) (λ many. ManyParts many) parts)
+
+pub unheard : (cut : Cut) (o : Opening) (parts : ℕ) (why : Refusal) → parts ≡ o.parts
+    → ((why ≡ NoSuchPart) × (cut.parts < parts)) ⊎ IsClosedOrOutOfMemory why → IsUnleft cut o why
+unheard cut o parts why is = ⊎_elim
+    (λ (p : (why ≡ NoSuchPart) × (cut.parts < parts)). subst (IsUnleft cut o) (sym p.0)
+    (OtherParts (subst (λ (n : ℕ). cut.parts < n) is p.1)))
+    (λ (closed : IsClosedOrOutOfMemory why). Unheard why closed)
+
+-- a partition that isn't there is refused by that, and each other for want of a reply
+pub unasked : (old now : Cut) (part parts : ℕ) (why : Refusal) → now.parts ≡ old.parts → part < parts
+    → (old.parts ≤ part → why ≡ NoSuchPart) → (part < old.parts → IsClosedOrOutOfMemory why)
+    → ((why ≡ NoSuchPart) × (now.parts < parts)) ⊎ IsClosedOrOutOfMemory why
+unasked old now part parts why same l nowhere closed = ⊎_elim
+    (λ (there : part < old.parts). inr (closed there))
+    (λ (past : old.parts ≤ part). inl (nowhere past, omega (arith, same, past, l)))
+    (cases_lt part old.parts)

@@ -1,8 +1,10 @@
 //! What a service leaves: the histories of its partitions, folded.
-ghost use Rattle.std.specs.Prelude.{◌≡◌, ◌≤◌, length, map, IfOk};
+ghost use Rattle.std.specs.Prelude.{◌≡◌, ◌≤◌, ◌<◌, ◌⊎◌, length, map, IfOk, IfErr};
 ghost use Rattle.album_stamps.specs.declared.limits.TheConstants.{MAX_PARTS};
+ghost use Rattle.album_stamps.specs.declared.refusals.Refusal.TheVariants.{BadOpening, NoSuchPart};
+ghost use Rattle.album_channels.specs.Channels.{IsClosedOrOutOfMemory};
 ghost use Rattle.album_sessions.specs.Steps.{IsStill};
-ghost use Rattle.album_turns.specs.Left.{AreBetween, IsFoundBy, IsLeftTo};
+ghost use Rattle.album_turns.specs.Left.{AreBetween, IsFoundBy, IsLeftTo, IsUnleft};
 
 use album_board::Listened;
 use album_epochs::{greatest_stamp, lend, opening_after};
@@ -57,6 +59,7 @@ pub fn leave<J: ServiceNames, R: Wait + time::Clock>(
 ) -> Result<Left<J>, Refusal>
     ensures left { IfOk result (λ left.
         IsFoundBy session.old.cut opening.now left.listened.cut left.opening) }
+    ensures unleft { IfErr result (IsUnleft session.new.cut opening.now) }
     ensures still { IsStill session.old session.new }
 {
     let listened = session.listen(rt);
@@ -77,6 +80,7 @@ fn next_of<J: ServiceNames, R: Wait + time::Clock>(
 ) -> Result<Opening, Refusal>
     ensures left { IfOk result (λ next. session.old.cut.opening ≡ opening.now.items
         → session.old.cut.parts ≡ opening.now.parts → IsLeftTo session.old.cut opening.now next) }
+    ensures unleft { IfErr result (IsUnleft session.new.cut opening.now) }
     ensures still { IsStill session.old session.new }
 {
     session.has_granted_writes();
@@ -94,6 +98,8 @@ fn parts_of(opening: &Opening) -> Result<u16, Refusal>
     ensures parts { IfOk result (λ parts. parts ≡ opening.now.parts) }
     ensures some { IfOk result (λ parts. 1 ≤ parts) }
     ensures few { IfOk result (λ parts. parts ≤ MAX_PARTS) }
+    ensures refused { IfErr result (λ e. (e ≡ BadOpening)
+        × ((opening.now.parts ≡ 0) ⊎ (MAX_PARTS < opening.now.parts))) }
 {
     if opening.parts < 1 || opening.parts > u64::from(MAX_PARTS) {
         return Err(Refusal::BadOpening);
@@ -115,6 +121,8 @@ fn histories_of<J: ServiceNames, R: Wait + time::Clock>(
     ensures count { IfOk result (λ histories. length histories.items ≡ parts) }
     ensures between { IfOk result (λ histories.
         AreBetween session.old.cut session.new.cut (map (λ marks. marks.items) histories.items)) }
+    ensures refused { IfErr result (λ e. ((e ≡ NoSuchPart) × (session.new.cut.parts < parts))
+        ⊎ IsClosedOrOutOfMemory e) }
     ensures still { IsStill session.old session.new }
 {
     session.has_granted_writes();

@@ -1,4 +1,4 @@
-use Rattle.std.proofs.Common.{◌≡◌, ℕ, Bool, true, Some, is_some, if◌then◌else◌, refl, sym, ap, ◌∙◌}
+use Rattle.std.proofs.Common.{◌≡◌, ℕ, Bool, Some, is_some, if◌then◌else◌, ap, ◌∙◌}
 use Rattle.std.specs.Option.{unwrap_or}
 use Rattle.std.proofs.lemmas.Bool.{ne_eqb}
 use Rattle.album_items.specs.declared.values.Value.{Value}
@@ -7,7 +7,7 @@ use Rattle.album_partition.specs.Marks.{discards, first_value}
 use Rattle.album_passes.specs.Cuts.{Cut, Extends, IsSound, prefix_at}
 use Rattle.album_passes.specs.Reads.{IsCommitted, written_value}
 use Rattle.album_passes.proofs.PrefixLemmas.{any_more}
-use Rattle.album_epochs.specs.Carried.{IsLeft, carried_stamp, value_carried_at}
+use Rattle.album_epochs.specs.Carried.{IsLeft, value_carried_at}
 use Rattle.album_epochs.proofs.CarriedLemmas.{throughout, committed_carried, carried_more}
 use Rattle.album_epochs.proofs.EpochLemmas.{never_back, read_back}
 use Rattle.album_epochs.proofs.LeftLemmas.{discarded_left}
