@@ -71,7 +71,7 @@ where
     }
 }
 
-/// The audit file that the command line names, if it does.
+/// The audit file that the command line names, if it does: `-` is standard error.
 ///
 /// # Errors
 ///
@@ -85,6 +85,7 @@ fn audit_file<T: Files<File = File> + Eprint>(
         return Ok(None);
     };
     if let Some(folder) = matches.and_then(|m| m.get_str("data"))
+        && path != "-"
         && lies_in(rt, path, folder)
     {
         let _ = eprintln!(rt; "album: {path}: an audit file is no part of the service's folder");
@@ -270,6 +271,7 @@ fn serving_of(matches: Option<&ArgMatches<'_>>, admins: Admins, goes_on: bool) -
         hello: seconds_of(matches, "hello").unwrap_or(limit),
         grace: seconds_of(matches, "grace").unwrap_or(limit),
         stats: seconds_of(matches, "stats").unwrap_or(0),
+        per_address: matches.and_then(|m| m.get_one::<u32>("per-address")),
         admins,
     }
 }
@@ -298,7 +300,7 @@ fn refuse_admins(rt: &impl Eprint, why: Refusal) -> ExitCode {
 pub(crate) fn served(rt: &impl Eprint, outcome: Result<Served, Fault>) -> ExitCode {
     match outcome {
         Ok(Served::Done) => ExitCode::SUCCESS,
-        Ok(Served::Refused) => ExitCode::from(1),
+        Ok(Served::Refused | Served::Unread) => ExitCode::from(1),
         Ok(Served::NoPort) => {
             let _ = eprintln!(rt; "album: port refused");
             ExitCode::from(1)

@@ -16,6 +16,7 @@ pub(crate) fn serve_command<'a>(alloc: Global) -> Result<Command<'a>, AllocError
         .after_help(SERVE_HELP);
     let command = with_arg(Ok(command), port_arg(alloc));
     let command = with_arg(command, conns_arg(alloc));
+    let command = with_arg(command, per_address_arg(alloc));
     let command = with_arg(command, idle_arg(alloc));
     let command = with_arg(command, until_eof_arg(alloc));
     let command = with_arg(command, hello_arg(alloc));
@@ -36,6 +37,14 @@ fn conns_arg<'a>(alloc: Global) -> Arg<'a> {
         .help("How many connections are served")
         .value_parser(value_parser!(u16).range(1..))
         .default_value("65535")
+}
+
+fn per_address_arg<'a>(alloc: Global) -> Arg<'a> {
+    Arg::new(alloc, "per-address")
+        .long("per-address")
+        .value_name("N")
+        .help("How many connections one address may have at once; left out, any number")
+        .value_parser(value_parser!(u32).range(1..))
 }
 
 fn idle_arg<'a>(alloc: Global) -> Arg<'a> {
@@ -124,5 +133,7 @@ fn audit_arg<'a>(alloc: Global) -> Arg<'a> {
     Arg::new(alloc, "audit")
         .long("audit")
         .value_name("FILE")
-        .help("A file to which each note is appended, before its request is answered")
+        .help(
+            "A file to which each note is appended, before its request is answered; or -, standard error",
+        )
 }

@@ -1,6 +1,7 @@
 //! The connections that come: each is given a session and a thread, or the reason why not. Those that an epoch left
 //! come first in the next one.
-use crate::connections::{Connections, Conversation, attend};
+use crate::connections::{Conversation, attend};
+use crate::count::{Count, is_want_of_files, wait};
 use crate::notices::Notice;
 use crate::one_epoch::Shared;
 use crate::port::Host;
@@ -12,18 +13,9 @@ use album_threads::{OwnedSession, Service, ServiceNames};
 use std::alloc::Global;
 use std::io::ErrorKind;
 use std::net::TcpStream;
-use std::sync::{Arc, Wait};
-use std::time::{Duration, Instant};
-use std::{thread, time};
-
-/// How many milliseconds the thread that accepts sleeps, where a connection can't be had.
-const NAP: u64 = 10;
-
-/// How often it sleeps so after a connection failed to come, unless one has ended meanwhile.
-const NAPS: u32 = 10;
-
-/// How many milliseconds an epoch that turns waits for a client that takes no answer.
-const STALL: u64 = 1_000;
+use std::sync::Arc;
+use std::thread;
+use std::time::Duration;
 
 /// How the connections of a service are served.
 #[derive(Clone, Copy, Debug)]
@@ -49,21 +41,8 @@ pub(crate) enum Accepted {
     All,
     /// The epoch turns, and those that are open go on in the next one.
     Turned,
-}
-
-/// How many connections were counted, and how many had ended as one last failed to come. Where the service is closed:
-/// when those that are open are ended, and whether they are. Where the epoch turns: when stalled ones are looked for.
-#[derive(Drop)]
-struct Count {
-    counted: u16,
-    failed_at: Option<u64>,
-    until: Option<Instant>,
-    is_cut: bool,
-    look_at: Option<Instant>,
-    /// How often they were looked for since it began to turn.
-    looks: u32,
-    /// Whether it was said that no more are served.
-    has_said: bool,
+    /// All have ended, since no session could be opened for a minute.
+    Spent,
 }
 
 /// Accepts connections until all that are counted have ended, or they are closed, or the epoch turns.
@@ -78,15 +57,7 @@ where
     J: ServiceNames + Send + Sync + 'static,
     T: Host,
 {
-    let mut count = Count {
-        counted: 0,
-        failed_at: None,
-        until: None,
-        is_cut: false,
-        look_at: None,
-        looks: 0,
-        has_said: false,
-    };
+    let mut count = Count::new();
     for _ in rt.forever() {
         let is_closed = is_closed(&rt, service, shared);
         if is_closed {
@@ -102,15 +73,18 @@ where
             }
             // The audit file takes nothing, and who noted nothing is not to wait for that.
             turn.put_off();
-            count.look_at = None;
-            count.looks = 0;
+            count.put_off();
         }
-        go_on_all(rt, alloc, service, shared);
+        go_on_all(rt, alloc, service, shared, &mut count);
         let is_full = is_closed || count.is_full(shared);
         // Those beyond the last are refused while the others are served.
         let have_ended = is_full && shared.connections.await_end();
         if have_ended && (is_closed || !shared.limits.until_closed) {
-            return Accepted::All;
+            return if count.is_spent() {
+                Accepted::Spent
+            } else {
+                Accepted::All
+            };
         }
         accept_one(rt, alloc, service, door, shared, is_full, &mut count);
     }
@@ -133,21 +107,43 @@ where
     T: Host,
 {
     match door.accept() {
-        Ok(stream) if is_full => {
+        Ok(peer) if is_full => {
             count.say_full(&rt, alloc, &shared.connections);
-            turn_away(alloc, &stream, Refusal::Closed);
+            turn_away(alloc, &peer.stream, Refusal::Closed);
         }
-        Ok(stream) => {
-            count.counted = count.counted.saturating_add(1);
-            welcome(rt, alloc, service, shared, stream);
-        }
+        Ok(peer) => take(rt, alloc, service, shared, peer, count),
         Err(error) if error.kind() == ErrorKind::WouldBlock => {
-            if door.wait(count.left(&rt)).is_err() {
-                sleep(&rt);
-            }
+            wait(&rt, door, count.left(&rt));
+        }
+        Err(error) if shared.limits.until_closed && is_want_of_files(&error) => {
+            count.make_room(&rt, door, &shared.connections);
         }
         Err(_) => count.fail(&rt, &shared.connections),
     }
+}
+
+/// Takes whoever has come, unless the address has as many connections as it may have: then it is told so, and doesn't
+/// count.
+fn take<J, T>(
+    rt: T,
+    alloc: Global,
+    service: &Service<J>,
+    shared: &Arc<Shared<J, T>, Global>,
+    peer: Peer,
+    count: &mut Count,
+)
+where
+    J: ServiceNames + Send + Sync + 'static,
+    T: Host,
+{
+    if !shared.connections.has_room_for(&rt, &peer) {
+        count.say_crowded(&rt, alloc, &shared.connections, peer.address);
+        turn_away(alloc, &peer.stream, Refusal::Closed);
+        return;
+    }
+    count.come();
+    let welcomed = welcome(rt, alloc, service, shared, peer);
+    count.note(&rt, shared, welcomed);
 }
 
 /// Whether no connection begins any more. So it is once the input has ended, with which the service ends, or a
@@ -176,112 +172,6 @@ where
     is_over
 }
 
-impl Count {
-    /// Whether as many have come as are served. Where the service doesn't end by their number, those count that have
-    /// said who they are, and else those that failed to come too.
-    fn is_full<J: ServiceNames, T: Host>(&self, shared: &Shared<J, T>) -> bool {
-        if shared.limits.until_closed {
-            let connections = &shared.connections;
-            return !connections.is_unlimited() && connections.counted() >= connections.most();
-        }
-        self.counted >= shared.limits.conns
-    }
-
-    /// Says once that no more are served, unless the service is closed.
-    fn say_full<T: Wait + time::Clock>(
-        &mut self,
-        rt: &T,
-        alloc: Global,
-        connections: &Connections,
-    ) {
-        if self.has_said || !connections.notices.are_dated() || connections.is_closed(rt) {
-            return;
-        }
-        let most = connections.most();
-        if let Ok(text) = format!(in alloc;
-            "{most} of {most} connections have come: whoever comes now is refused"
-        ) {
-            self.has_said = true;
-            connections.notices.send(rt, Notice::Warning(text));
-        }
-    }
-
-    /// Ends the connections that are open still, where the service was closed so long ago as they are given.
-    fn cut_late<J: ServiceNames, T: Host>(&mut self, rt: &T, shared: &Shared<J, T>) {
-        let (Some(grace), Ok(now)) = (shared.limits.grace, Instant::now(rt)) else {
-            return;
-        };
-        let until = self.until;
-        match until {
-            None => self.until = now.checked_add(grace),
-            Some(until) if now >= until && !self.is_cut => {
-                self.is_cut = true;
-                shared.connections.cut(rt);
-                shared.journal.give_up(rt);
-            }
-            Some(_) => {}
-        }
-    }
-
-    /// Whether the epoch that turns has waited as long as one client may hold it up.
-    fn has_waited(&self) -> bool {
-        self.looks > 1
-    }
-
-    /// The epoch turns, and waits for what is still to be answered, but not for a client that takes no answer.
-    fn await_quiet<T: Host>(&mut self, rt: &T, door: &mut Door, connections: &Connections) {
-        let now = Instant::now(rt).ok();
-        let until = self.look_at;
-        match (until, now) {
-            (Some(until), Some(now)) if now < until => {}
-            _ => {
-                connections.cut_stalled(rt);
-                self.looks = self.looks.saturating_add(1);
-                self.look_at = now.and_then(|now| now.checked_add(Duration::from_millis(STALL)));
-            }
-        }
-        nap(rt, door);
-    }
-
-    /// How long the thread that accepts may wait: until they are ended, if they are to be.
-    fn left<T: time::Clock>(&self, rt: &T) -> Option<Duration> {
-        if self.is_cut {
-            return None;
-        }
-        let (Some(until), Ok(now)) = (self.until, Instant::now(rt)) else {
-            return None;
-        };
-        Some(until.saturating_duration_since(now))
-    }
-
-    /// A connection fails to come. It counts, unless the one before failed too and none has ended since: where there
-    /// are no more files to be had, waiting for an end is all that helps.
-    fn fail<T: Wait + time::Clock>(&mut self, rt: &T, connections: &Connections) {
-        let ended = connections.ended();
-        if self.failed_at != Some(ended) {
-            self.failed_at = Some(ended);
-            self.counted = self.counted.saturating_add(1);
-        }
-        for _ in 0..NAPS {
-            sleep(rt);
-            if connections.ended() != ended {
-                return;
-            }
-        }
-    }
-}
-
-fn sleep<T: time::Clock>(rt: &T) {
-    thread::sleep(rt, Duration::from_millis(NAP));
-}
-
-/// Sleeps as long, or until it is woken.
-fn nap<T: time::Clock>(rt: &T, door: &mut Door) {
-    if door.wait(Some(Duration::from_millis(NAP))).is_err() {
-        sleep(rt);
-    }
-}
-
 /// Answers a connection why it is not served, and closes it.
 fn turn_away(alloc: Global, stream: &TcpStream, why: Refusal) {
     let mut to = stream;
@@ -289,26 +179,33 @@ fn turn_away(alloc: Global, stream: &TcpStream, why: Refusal) {
 }
 
 /// Gives a connection a session and a thread, or answers why it has none.
+///
+/// # Errors
+///
+/// That reason.
 fn welcome<J, T>(
     rt: T,
     alloc: Global,
     service: &Service<J>,
     shared: &Arc<Shared<J, T>, Global>,
-    stream: TcpStream,
-)
+    peer: Peer,
+) -> Result<(), Refusal>
 where
     J: ServiceNames + Send + Sync + 'static,
     T: Host,
 {
+    let stream = &peer.stream;
     let _ = stream.set_read_timeout(shared.limits.idle);
     let _ = stream.set_write_timeout(shared.limits.idle);
     let _ = stream.set_nodelay(true);
-    let Ok(peer) = Arc::new(alloc, Peer::new(stream)) else {
-        return;
+    let Ok(peer) = Arc::new(alloc, peer) else {
+        return Err(Refusal::OutOfMemory);
     };
-    if let Err(why) = begin(rt, alloc, service, shared, &peer) {
+    let begun = begin(rt, alloc, service, shared, &peer);
+    if let Err(why) = begun {
         turn_away(alloc, &peer.stream, why);
     }
+    begun
 }
 
 /// Gives a connection a session and a thread.
@@ -380,7 +277,13 @@ where
 }
 
 /// Those that the epoch before has left go on in this one.
-fn go_on_all<J, T>(rt: T, alloc: Global, service: &Service<J>, shared: &Arc<Shared<J, T>, Global>)
+fn go_on_all<J, T>(
+    rt: T,
+    alloc: Global,
+    service: &Service<J>,
+    shared: &Arc<Shared<J, T>, Global>,
+    count: &mut Count,
+)
 where
     J: ServiceNames + Send + Sync + 'static,
     T: Host,
@@ -389,18 +292,23 @@ where
         return;
     }
     for conversation in shared.connections.take_left(&rt) {
-        go_on(rt, alloc, service, shared, conversation);
+        let opened = go_on(rt, alloc, service, shared, conversation);
+        count.note(&rt, shared, opened);
     }
 }
 
 /// A conversation goes on in this epoch, or is told why not.
+///
+/// # Errors
+///
+/// That reason.
 fn go_on<J, T>(
     rt: T,
     alloc: Global,
     service: &Service<J>,
     shared: &Arc<Shared<J, T>, Global>,
     conversation: Conversation,
-)
+) -> Result<(), Refusal>
 where
     J: ServiceNames + Send + Sync + 'static,
     T: Host,
@@ -408,7 +316,7 @@ where
     let number = conversation.number;
     let Ok(peer) = Arc::try_clone(&conversation.peer) else {
         shared.connections.end(&rt, number);
-        return;
+        return Err(Refusal::OutOfMemory);
     };
     let begun = match session_of(&rt, service, shared) {
         Ok(owned) => start(rt, alloc, shared, owned, conversation),
@@ -419,4 +327,5 @@ where
         shared.connections.end(&rt, number);
         shared.connections.say_refused(&rt);
     }
+    begun
 }

@@ -1,5 +1,5 @@
-//! The file to which a service appends its notes. It is known by its path: where another file is there, as after a
-//! rotation, that is gone on with.
+//! Where a service appends its notes: to a file, or to standard error. A file is known by its path: where another one
+//! is there, as after a rotation, that is gone on with.
 use album_judge::Fault;
 use std::alloc::Global;
 use std::fs::{File, Metadata, OpenOptions, metadata};
@@ -8,11 +8,24 @@ use std::io::{ErrorKind, Read, Seek, SeekFrom, Write};
 use std::os::unix::fs::{FileTypeExt, MetadataExt};
 use std::rt::Files;
 
-/// A file to which notes are appended, and its path.
+/// The path that stands for standard error, and how messages call it.
+const STANDARD_ERROR: &str = "-";
+
+const ITS_NAME: &str = "standard error";
+
+/// Where notes are appended, and what messages call it: a file by its path.
 #[derive(Drop)]
 pub struct AuditFile {
-    pub path: String,
-    pub file: File,
+    pub(crate) path: String,
+    pub(crate) to: AppendedTo,
+}
+
+/// What notes are appended to.
+#[derive(Drop)]
+pub(crate) enum AppendedTo {
+    File(File),
+    /// As lines between others, each of them whole.
+    StandardError,
 }
 
 /// What became of an audit file that was looked for by its path.
@@ -27,8 +40,9 @@ pub(crate) enum Looked {
 }
 
 impl AuditFile {
-    /// The file at the path, made where there is none. Its last line is whole: where it was torn, since a disk was full
-    /// or the machine stopped, it is ended, and standard error says so.
+    /// The file at the path, made where there is none; or standard error, where the path is `-`. The file's last line
+    /// is whole: where it was torn, since a disk was full or the machine stopped, it is ended, and standard error says
+    /// so.
     ///
     /// # Errors
     ///
@@ -39,6 +53,11 @@ impl AuditFile {
         path: &str,
         opening: Option<&str>,
     ) -> Result<AuditFile, Fault> {
+        if path == STANDARD_ERROR {
+            let path = String::from_str(alloc, ITS_NAME).map_err(|_| Fault::Memory)?;
+            let to = AppendedTo::StandardError;
+            return Ok(AuditFile { path, to });
+        }
         if let Some(why) = unfit(rt, path, opening) {
             let _ = eprintln!(rt; "album: {path}: {why}");
             return Err(Fault::Writing);
@@ -49,7 +68,8 @@ impl AuditFile {
                     let _ = eprintln!(rt; "album: {path}: the last line was torn, and is ended");
                 }
                 let path = String::from_str(alloc, path).map_err(|_| Fault::Memory)?;
-                Ok(AuditFile { path, file })
+                let to = AppendedTo::File(file);
+                Ok(AuditFile { path, to })
             }
             Err(error) => {
                 let _ = eprintln!(rt; "album: {path}: {error}");
@@ -59,13 +79,16 @@ impl AuditFile {
     }
 
     /// Looks whether the file at its path is the one that is open, and opens what is there where it isn't. Of what
-    /// can't be looked at nothing is known, and nothing is done.
+    /// can't be looked at nothing is known, and nothing is done; and standard error has no path.
     ///
     /// # Errors
     ///
     /// Where there is no file any more or another one, and it can't be had.
     pub(crate) fn look<T: Files<File = File>>(&mut self, rt: &T) -> io::Result<Looked> {
-        match (metadata(rt, &self.path), self.file.metadata()) {
+        let AppendedTo::File(file) = &self.to else {
+            return Ok(Looked::Same);
+        };
+        match (metadata(rt, &self.path), file.metadata()) {
             (Ok(found), Ok(open)) if !is_same(&found, &open) => self.reopen(rt),
             (Err(error), _) if error.kind() == ErrorKind::NotFound => self.reopen(rt),
             _ => Ok(Looked::Same),
@@ -77,7 +100,7 @@ impl AuditFile {
             return Err(io::Error::from(ErrorKind::InvalidInput));
         }
         let (file, is_torn) = open_to_append(rt, &self.path)?;
-        self.file = file;
+        self.to = AppendedTo::File(file);
         Ok(if is_torn {
             Looked::Torn
         } else {

@@ -4,6 +4,7 @@ use crate::first_words::{FirstWords, Hearing, Said};
 use crate::incoming::Incoming;
 use crate::notices::{Notice, Notices};
 use crate::one_epoch::Shared;
+use crate::peers::Peers;
 use crate::port::Host;
 use crate::resumed::{Answered, Peer};
 use crate::turn::EpochReader;
@@ -14,22 +15,11 @@ use album_stamps::{ClientNo, Refusal};
 use album_talk::{Admins, talk_on};
 use album_threads::{OwnedSession, ServiceNames};
 use std::alloc::{AllocError, Global};
-use std::collections::BTreeMap;
 use std::net::Shutdown;
 use std::sync::atomic::{AtomicBool, AtomicU64, Ordering};
 use std::sync::{Arc, Mutex, Wait};
 use std::time::Instant;
 use std::{mem, time};
-
-/// Whoever has a connection that is open, by its number.
-#[derive(Drop)]
-struct Peers {
-    open: BTreeMap<u64, Arc<Peer, Global>>,
-    /// Those that the epoch which turned has left to the next one.
-    left: Vec<Conversation>,
-    /// Whether no connection begins any more.
-    is_closed: bool,
-}
 
 /// What the threads of the connections share with the one that accepts them.
 #[derive(Drop)]
@@ -54,22 +44,19 @@ pub(crate) struct Connections {
 }
 
 impl Connections {
-    /// None is open yet.
+    /// None is open yet. An address may have so many at once.
     pub(crate) fn new(
         alloc: Global,
         notices: Notices,
         waker: Waker,
         most: u16,
         counts_named: bool,
+        per_address: u32,
         admins: Admins,
     ) -> Connections {
         Connections {
             alloc,
-            peers: Mutex::new(Peers {
-                open: BTreeMap::new(alloc),
-                left: Vec::new(alloc),
-                is_closed: false,
-            }),
+            peers: Mutex::new(Peers::new(alloc, per_address)),
             waker,
             awaits_end: AtomicBool::new(false),
             begun: AtomicU64::new(0),
@@ -86,22 +73,43 @@ impl Connections {
     ///
     /// # Errors
     ///
-    /// `Closed`, where none begins any more; else `OutOfMemory`.
-    pub(crate) fn begin<T: Wait>(&self, rt: &T, peer: &Arc<Peer, Global>) -> Result<u64, Refusal> {
+    /// `Closed`, where none begins any more, or its address has as many as it may have; else `OutOfMemory`.
+    pub(crate) fn begin<T: Wait + time::Clock>(
+        &self,
+        rt: &T,
+        peer: &Arc<Peer, Global>,
+    ) -> Result<u64, Refusal> {
         let peer = Arc::try_clone(peer)?;
+        let now = Instant::now(rt).ok();
         let mut peers = self.peers.lock(rt);
-        if peers.is_closed {
-            return Err(Refusal::Closed);
-        }
         let number = self.begun().saturating_add(1);
-        let _ = peers.open.insert(number, peer)?;
+        peers.begin(number, peer, now)?;
         self.begun.fetch_add(1, Ordering::SeqCst);
         Ok(number)
     }
 
+    /// Whether one more of this peer's address may begin.
+    pub(crate) fn has_room_for<T: Wait>(&self, rt: &T, peer: &Peer) -> bool {
+        self.peers.lock(rt).addresses.has_room(peer.address)
+    }
+
+    /// The oldest connection that hasn't said who it is is closed, if it has had time for that, and standard error says
+    /// so. Returns whether one is.
+    pub(crate) fn give_way<T: Wait + time::Clock>(&self, rt: &T) -> bool {
+        let Ok(now) = Instant::now(rt) else {
+            return false;
+        };
+        let Some(number) = self.peers.lock(rt).give_way(now) else {
+            return false;
+        };
+        let of = format!(in self.alloc; "connection {number}").ok();
+        self.notices.send_of(rt, of, Notice::GaveWay);
+        true
+    }
+
     /// The connection of this number has ended. Where the last is waited for, and this is it, that is told.
     pub(crate) fn end<T: Wait>(&self, rt: &T, number: u64) {
-        let peer = self.peers.lock(rt).open.remove(&number);
+        let peer = self.peers.lock(rt).end(number);
         drop(peer);
         self.ended.fetch_add(1, Ordering::SeqCst);
         if self.awaits_end.load(Ordering::SeqCst) && self.have_ended() {
@@ -130,8 +138,9 @@ impl Connections {
         self.have_ended()
     }
 
-    /// A connection has said who it is.
-    pub(crate) fn name(&self) {
+    /// The connection of this number has said who it is.
+    pub(crate) fn name<T: Wait>(&self, rt: &T, number: u64) {
+        self.peers.lock(rt).silent.remove(number);
         self.named.fetch_add(1, Ordering::SeqCst);
     }
 
@@ -279,16 +288,20 @@ where
             shared.connections.leave(&rt, conversation);
         }
         Ended::Over(notice) => {
+            let number = conversation.number;
             finish(alloc, shared, owned, &conversation, notice);
             // Until here it is busy: what it has noted is written by the epoch's journal.
             if let Some(turn) = &shared.turn {
                 turn.leave(&conversation.peer);
             }
+            // Where it counts as ended, its file is free.
+            drop(conversation);
+            shared.connections.end(&rt, number);
         }
     }
 }
 
-/// The connection has ended so.
+/// What is said over the connection has ended so.
 fn finish<J, T>(
     alloc: Global,
     shared: &Arc<Shared<J, T>, Global>,
@@ -310,7 +323,6 @@ where
         shared.connections.close(&rt);
     }
     shared.rest(owned);
-    shared.connections.end(&rt, conversation.number);
 }
 
 /// How a connection is named on standard error.
@@ -342,7 +354,7 @@ where
 {
     let rt = owned.rt;
     let Conversation {
-        number: _,
+        number,
         peer,
         incoming,
         said,
@@ -353,6 +365,7 @@ where
     let hearing = Hearing {
         journal: &shared.journal,
         connections: &shared.connections,
+        number: *number,
         said,
     };
     let from = FirstWords {

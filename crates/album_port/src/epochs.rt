@@ -95,6 +95,7 @@ impl Port {
             hello: _,
             grace: _,
             stats,
+            per_address,
             admins,
         } = serving;
         let connections = Connections::new(
@@ -103,6 +104,7 @@ impl Port {
             waker.copy()?,
             limits.conns,
             goes_on,
+            per_address.unwrap_or(u32::MAX),
             admins,
         );
         let Ok(connections) = Arc::new(alloc, connections) else {
@@ -214,7 +216,7 @@ impl Port {
     }
 
     /// The last epoch has ended so. All notices are printed, and then the totals of all epochs, unless there was a
-    /// fault.
+    /// fault. Where nobody reads the notices, a fault isn't given back, so that nobody waits to print it.
     ///
     /// # Errors
     ///
@@ -242,13 +244,15 @@ impl Port {
         } = self;
         drop(connections);
         drop(notices);
-        printer.close(&rt);
-        match ended? {
-            EpochEnd::Refused => Ok(Served::Refused),
-            EpochEnd::Over | EpochEnd::Turned(_) => {
+        let is_read = printer.close(&rt);
+        match ended {
+            Ok(EpochEnd::Refused) => Ok(Served::Refused),
+            Ok(EpochEnd::Over | EpochEnd::Turned(_)) => {
                 print(alloc, &totals_out(totals), writer)?;
                 Ok(Served::Done)
             }
+            Err(_) if !is_read => Ok(Served::Unread),
+            Err(fault) => Err(fault),
         }
     }
 }

@@ -48,7 +48,7 @@ impl Said {
         match &*self.who.lock(rt) {
             None => String::from_str(alloc, "nobody yet"),
             Some(Principal::Anonymous) => String::from_str(alloc, "ANONYMOUS@"),
-            Some(Principal::User(name)) => {
+            Some(Principal::User(name) | Principal::Root(name)) => {
                 let name = name.as_str();
                 format!(in alloc; "{name}@users")
             }
@@ -130,6 +130,8 @@ impl<T: Wait + time::Clock + Copy> FirstWords<'_, T> {
 pub(crate) struct Hearing<'a, A> {
     pub journal: &'a A,
     pub connections: &'a Connections,
+    /// The connection's number.
+    pub number: u64,
     pub said: &'a Said,
 }
 
@@ -148,7 +150,7 @@ impl<A: Journal> Journal for Hearing<'_, A> {
             && !self.said.is_known()
         {
             self.said.is(rt, who);
-            self.connections.name();
+            self.connections.name(rt, self.number);
         }
         self.journal.settle(rt, session, who)
     }

@@ -9,9 +9,13 @@ use std::io::Read;
 use std::time::Instant;
 use std::{io, mem};
 
+/// How many bytes the room for a line that has begun may have, after a longer one has ended.
+const KEPT: usize = 4_096;
+
 /// What comes of a connection, whatever epoch it is in.
 #[derive(Drop)]
 pub(crate) struct Incoming {
+    alloc: Global,
     /// By when it has to say who it is, if there is a limit.
     pub until: Option<Instant>,
     pub first: FirstLine,
@@ -26,6 +30,7 @@ impl Incoming {
     /// Nothing has come yet.
     pub(crate) fn new(alloc: Global, until: Option<Instant>) -> Incoming {
         Incoming {
+            alloc,
             until,
             first: FirstLine::new(),
             kept: Vec::new(alloc),
@@ -50,6 +55,10 @@ impl Incoming {
         let mut rest = self.kept.get(self.taken..).unwrap_or(&[]);
         let len = rest.read(buf)?;
         self.taken = self.taken.saturating_add(len);
+        if !self.has_rest() {
+            self.kept = Vec::new(self.alloc);
+            self.taken = 0;
+        }
         Ok(len)
     }
 
@@ -63,6 +72,9 @@ impl Incoming {
             None => piece,
             Some(end) => {
                 self.begun.clear();
+                if self.begun.capacity() > KEPT {
+                    self.begun = Vec::new(self.alloc);
+                }
                 piece.get(end.saturating_add(1)..).unwrap_or(&[])
             }
         };
@@ -80,8 +92,7 @@ impl Incoming {
         self.begun
             .extend_from_slice(self.kept.get(self.taken..).unwrap_or(&[]))?;
         self.begun.extend_from_slice(piece)?;
-        mem::swap(&mut self.kept, &mut self.begun);
-        self.begun.clear();
+        self.kept = mem::replace(&mut self.begun, Vec::new(self.alloc));
         self.taken = 0;
         Ok(())
     }

@@ -8,6 +8,9 @@
 //! (`watch`). `waker` waits for whoever connects, `resumed` reads anew after an interruption, and `first_words` reads
 //! until it is said who talks. specs/Audits.antt says what the audit file has.
 //!
+//! Nobody locks it out: an address has so many connections at once (`addresses`), where files are short the
+//! oldest that hasn't said who it is gives way (`silent`), and a service that can open no session ends (`failing`).
+//!
 //! `serve` ends with its connections; `serve_for` has options; `serve_until` ends with its input; `serve_beside` takes
 //! the opening from another input. A `Port` (`epochs`) is served from epoch to epoch, with a log or without: its
 //! connections stay (`turn`), and what they have said before is answered in the next one (`incoming`).
@@ -26,12 +29,17 @@ mod writer;
 
 // The connections, what they say first, and what the thread that accepts them is woken by.
 mod accepting;
+mod addresses;
 mod connections;
+mod count;
+mod failing;
 mod first_line;
 mod first_words;
 mod incoming;
 mod input;
+mod peers;
 mod resumed;
+mod silent;
 mod turn;
 mod waker;
 

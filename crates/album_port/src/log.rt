@@ -138,6 +138,8 @@ fn who_len(who: &Principal) -> usize
 {
     match who {
         Principal::Anonymous => "\"who\":\"ANONYMOUS@\"}\n".len(),
-        Principal::User(name) => "\"who\":\"@users\"}\n".len() + name.as_str().len(),
+        Principal::User(name) | Principal::Root(name) => {
+            "\"who\":\"@users\"}\n".len() + name.as_str().len()
+        }
     }
 }

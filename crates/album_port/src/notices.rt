@@ -6,10 +6,11 @@ use album_stamps::Refusal;
 use crossbeam_channel::{Receiver, Sender, unbounded};
 use jiff::Timestamp;
 use std::alloc::Global;
-use std::sync::Wait;
+use std::io::ErrorKind;
+use std::sync::{Arc, Mutex, Wait};
 use std::thread::Threads;
 use std::time::Duration;
-use std::{fmt, thread, time};
+use std::{fmt, io, str, thread, time};
 
 /// How many seconds are given to what is still to be printed as the service ends.
 const LAST: u64 = 1;
@@ -21,8 +22,12 @@ pub(crate) enum Notice {
     Fault(Fault),
     /// A connection ended, since its first line begins like a request of HTTP.
     Http,
+    /// A connection that hasn't said who it is was closed, since there were no more files for others.
+    GaveWay,
     /// A connection has come for which no thread could be had.
     NoThread,
+    /// No session could be opened for a minute.
+    NoSession,
     /// The input has ended before anyone came.
     Ended,
     /// Why the service is about to end, or is soon to refuse.
@@ -38,6 +43,10 @@ impl fmt::Display for Notice {
             Notice::Http => f.write_str(
                 "a request of HTTP came, and nothing after its first line was read",
             ),
+            Notice::GaveWay => f.write_str("gave way to a newcomer"),
+            Notice::NoSession => {
+                f.write_str("no session could be opened for a minute, and the service ends")
+            }
             Notice::NoThread => f.write_str("no thread could be had for it"),
             Notice::Ended => {
                 f.write_str("standard input has ended before anyone came, and so does the service")
@@ -61,6 +70,8 @@ pub(crate) struct Notices {
     to: Sender<Line>,
     /// Whether a line says when, and of which connection it is.
     is_dated: bool,
+    /// Who holds it prints: so each line is whole.
+    printing: Arc<Mutex<()>, Global>,
 }
 
 impl Notices {
@@ -73,6 +84,7 @@ impl Notices {
         Ok(Notices {
             to: self.to.clone()?,
             is_dated: self.is_dated,
+            printing: Arc::try_clone(&self.printing)?,
         })
     }
 
@@ -97,6 +109,19 @@ impl Notices {
         let _ = self.to.send(rt, Line { at, of, notice });
     }
 
+    /// Prints these lines at once, when no other is printed. Waits where nobody reads them.
+    ///
+    /// # Errors
+    ///
+    /// Where they are no text, and where standard error fails.
+    pub(crate) fn print_whole<T: Wait + Eprint>(&self, rt: &T, lines: &[u8]) -> io::Result<()> {
+        let Ok(lines) = str::from_utf8(lines) else {
+            return Err(io::Error::from(ErrorKind::InvalidData));
+        };
+        let _printing = self.printing.lock(rt);
+        eprint!(rt; "{lines}")
+    }
+
     /// Has the notice printed, where no other waits to be printed.
     pub(crate) fn send_if_read<T: Wait + time::Clock>(&self, rt: &T, notice: Notice) {
         if self.to.is_empty() {
@@ -110,6 +135,8 @@ impl Notices {
 pub(crate) struct Printer {
     /// Is closed as the thread ends.
     ended: Receiver<()>,
+    /// Is held while something is printed.
+    printing: Arc<Mutex<()>, Global>,
 }
 
 impl Printer {
@@ -129,23 +156,43 @@ impl Printer {
     {
         let (to, from) = unbounded(alloc)?;
         let (end, ended) = unbounded(alloc)?;
-        let thread = thread::spawn(&rt, move || print_all(&rt, &from, end));
+        let printing = Arc::new(alloc, Mutex::new(()))?;
+        let its_own = Arc::try_clone(&printing)?;
+        let printer = Printer {
+            ended,
+            printing: Arc::try_clone(&printing)?,
+        };
+        let thread = thread::spawn(&rt, move || print_all(&rt, &from, &its_own, end));
         if thread.is_err() {
             return Err(Refusal::OutOfMemory);
         }
-        Ok((Printer { ended }, Notices { to, is_dated }))
+        let notices = Notices {
+            to,
+            is_dated,
+            printing,
+        };
+        Ok((printer, notices))
     }
 
-    /// Waits until all is printed, but no longer than a second: nobody may read it.
-    pub(crate) fn close<T: Wait + time::Clock>(self, rt: &T) {
+    /// Waits until all is printed, but no longer than a second: nobody may read it. Returns whether somebody does: then
+    /// nothing is being printed still.
+    pub(crate) fn close<T: Wait + time::Clock>(self, rt: &T) -> bool {
         let _ = self.ended.recv_timeout(rt, Duration::from_secs(LAST));
+        self.printing.try_lock().is_some()
     }
 }
 
 /// Prints each by one line. `end` is let go afterwards.
-fn print_all<T: Wait + Eprint>(rt: &T, from: &Receiver<Line>, end: Sender<()>) {
+fn print_all<T: Wait + Eprint>(
+    rt: &T,
+    from: &Receiver<Line>,
+    printing: &Arc<Mutex<()>, Global>,
+    end: Sender<()>,
+) {
     for line in from.iter(rt) {
+        let whole = printing.lock(rt);
         print(rt, &line);
+        drop(whole);
     }
     drop(end);
 }

@@ -63,8 +63,8 @@ where
 ///
 /// # Errors
 ///
-/// Those of `attend_all`; `Memory`, also where a partition has ended for want of it; `Writing`, also where the log
-/// failed.
+/// Those of `attend_all`; `Memory`, also where a partition has ended for want of it, or no session could be opened for a
+/// minute; `Writing`, also where the log failed.
 fn serve_all<J, T, L, W>(
     rt: T,
     alloc: Global,
@@ -88,6 +88,7 @@ where
     let done = match say_and_attend(rt, alloc, &service, port, terms, writer) {
         Ok(Accepted::All) => Ok(EpochEnd::Over),
         Ok(Accepted::Turned) => Ok(EpochEnd::Turned(next(&rt, alloc, &service, &epoch.opening))),
+        Ok(Accepted::Spent) => Err(Fault::Memory),
         Err(fault) => Err(fault),
     };
     close(&rt, service, done)

@@ -33,6 +33,8 @@ pub enum Served {
     Refused,
     /// The port can't be had.
     NoPort,
+    /// By a fault, and nobody reads standard error.
+    Unread,
 }
 
 /// Where and how long a service is run.
@@ -53,6 +55,8 @@ pub struct Serving {
     pub grace: u32,
     /// Each so many seconds the figures of the service are printed on standard error. 0 is never.
     pub stats: u32,
+    /// How many connections one address may have at once, if there is a bound.
+    pub per_address: Option<u32>,
     /// Who may sweep, trim and ask what is pending.
     pub admins: Admins,
 }
@@ -109,6 +113,7 @@ pub fn serve<T: Host, R: Read, W: Write>(
         hello: 0,
         grace: 0,
         stats: 0,
+        per_address: None,
         admins: Admins::Anyone,
     };
     serve_for(rt, alloc, reader, writer, serving, None)

@@ -10,6 +10,8 @@ use std::sync::atomic::{AtomicBool, AtomicU64, Ordering};
 #[derive(Drop)]
 pub(crate) struct Peer {
     pub stream: TcpStream,
+    /// The number of its address.
+    pub address: u32,
     /// Whether something was read of it that isn't answered yet.
     pub is_busy: AtomicBool,
     /// How many writes to it have begun, and ended: an odd number while one is under way. And how many there were when
@@ -20,9 +22,10 @@ pub(crate) struct Peer {
 
 impl Peer {
     /// Nothing was read.
-    pub(crate) fn new(stream: TcpStream) -> Peer {
+    pub(crate) fn new(stream: TcpStream, address: u32) -> Peer {
         Peer {
             stream,
+            address,
             is_busy: AtomicBool::new(false),
             writes: AtomicU64::new(0),
             looked: AtomicU64::new(0),

@@ -1,11 +1,12 @@
 //! What the thread that accepts connections waits for: a connection, or to be woken by another thread.
+use crate::resumed::Peer;
 use album_stamps::Refusal;
 use album_threads::Gate;
 use mio::unix::SourceFd;
 use mio::{Events, Interest, Poll, Token};
 use std::alloc::Global;
 use std::io;
-use std::net::{IpAddr, Ipv4Addr, Net, SocketAddr, TcpListener, TcpStream};
+use std::net::{IpAddr, Ipv4Addr, Net, SocketAddr, TcpListener};
 use std::os::fd::AsRawFd;
 use std::sync::Arc;
 use std::time::Duration;
@@ -24,6 +25,8 @@ pub(crate) struct Door {
     listener: TcpListener,
     poll: Poll,
     events: Events<Global>,
+    /// Whether it was woken as it looked for somebody: that ends its next wait.
+    is_woken: bool,
 }
 
 /// Ends a wait at the door, from any thread.
@@ -49,6 +52,7 @@ impl Door {
             listener,
             poll,
             events: Events::with_capacity(alloc, TOLD)?,
+            is_woken: false,
         };
         let of = Arc::new(alloc, waker)?;
         Ok((door, Waker { of }))
@@ -59,9 +63,27 @@ impl Door {
     /// # Errors
     ///
     /// `WouldBlock`, where nobody has; else where a connection fails to come.
-    pub(crate) fn accept(&self) -> io::Result<TcpStream> {
-        let (stream, _from) = self.listener.accept()?;
-        Ok(stream)
+    pub(crate) fn accept(&self) -> io::Result<Peer> {
+        let (stream, from) = self.listener.accept()?;
+        Ok(Peer::new(stream, address_of(from.ip())))
+    }
+
+    /// Whether somebody waits to be accepted. Where no file is left, `accept` fails also where nobody does.
+    ///
+    /// # Errors
+    ///
+    /// Where that can't be known.
+    pub(crate) fn has_somebody(&mut self) -> io::Result<bool> {
+        // Whoever came earlier is told of anew.
+        let number = self.listener.as_raw_fd();
+        self.poll
+            .registry()
+            .reregister(&mut SourceFd(&number), COMES, Interest::READABLE)?;
+        self.poll.poll(&mut self.events, Some(Duration::ZERO))?;
+        if self.events.iter().any(|event| event.token() == WOKEN) {
+            self.is_woken = true;
+        }
+        Ok(self.events.iter().any(|event| event.token() == COMES))
     }
 
     /// Waits until somebody comes or wakes it, or so long.
@@ -70,6 +92,10 @@ impl Door {
     ///
     /// Where the wait fails.
     pub(crate) fn wait(&mut self, most: Option<Duration>) -> io::Result<()> {
+        if self.is_woken {
+            self.is_woken = false;
+            return Ok(());
+        }
         self.poll.poll(&mut self.events, most)
     }
 }
@@ -95,6 +121,10 @@ impl Waker {
 /// A gate that holds nothing up. Where a partition's thread or the log fails, the thread that accepts is woken, and
 /// finds the service broken then.
 impl Gate for Waker {
+    fn is_open(&self) -> bool {
+        true
+    }
+
     fn enter(&self, _part: u16, _number: u64) {}
 
     fn leave(&self, _part: u16, _number: u64) {}
@@ -105,6 +135,14 @@ impl Gate for Waker {
 
     fn fail_log(&self) {
         self.wake();
+    }
+}
+
+/// The number of the address. One that has more bits, as none at this port has, counts as 0.
+fn address_of(ip: IpAddr) -> u32 {
+    match ip {
+        IpAddr::V4(ip) => ip.to_bits(),
+        IpAddr::V6(_) => 0,
     }
 }
 

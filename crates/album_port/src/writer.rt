@@ -1,6 +1,6 @@
-//! The thread that writes to the audit file.
+//! The thread that writes to the audit file, or to standard error in its place.
 use crate::audit::Pending;
-use crate::audit_file::{AuditFile, Looked};
+use crate::audit_file::{AppendedTo, AuditFile, Looked};
 use crate::notices::{Notice, Notices};
 use std::alloc::Global;
 use std::fmt::Display;
@@ -25,7 +25,7 @@ pub(crate) struct Writer {
 
 impl Writer {
     /// Writes what waits, until no more will come, or a write fails.
-    pub(crate) fn write_all<T: Wait + Clock + Files<File = File>>(
+    pub(crate) fn write_all<T: Wait + Clock + Eprint + Files<File = File>>(
         mut self,
         rt: &T,
         pending: &Arc<Pending, Global>,
@@ -45,18 +45,21 @@ impl Writer {
         }
     }
 
-    /// Appends the text to the file at the path.
+    /// Appends the text to the file at the path, or to standard error.
     ///
     /// # Errors
     ///
     /// Where there is another file, or none, that can't be had; else that of the write.
-    fn write<T: Wait + Clock + Files<File = File>>(
+    fn write<T: Wait + Clock + Eprint + Files<File = File>>(
         &mut self,
         rt: &T,
         text: &[u8],
     ) -> io::Result<()> {
         self.look(rt)?;
-        self.file.file.write_all(text)
+        match &mut self.file.to {
+            AppendedTo::File(file) => file.write_all(text),
+            AppendedTo::StandardError => self.notices.print_whole(rt, text),
+        }
     }
 
     /// Looks for the file by its path, at most once a second.
