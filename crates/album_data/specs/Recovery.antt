@@ -57,13 +57,14 @@ pub record AreLogged (parts : ℕ) (entries : List LogEntry) (histories : List (
 
 -- ---- the next opening
 
--- The opening with which the next epoch begins: the counts and the policy stay, the clocks begin above all that were
--- drawn before, as far as the log has them, and the rows and their stamps are what the log leaves, folded.
+-- The opening with which the next epoch begins: the counts, the policy and the root stay, the clocks begin above all
+-- that were drawn before, as far as the log has them, and the rows and their stamps are what the log leaves, folded.
 pub record IsOpenedAfter (opening : Opening) (entries : List LogEntry) (next : Opening) : Type 0 where
   pub parts : next.parts ≡ opening.parts
   pub limit : next.limit ≡ opening.limit
   pub policy : next.policy ≡ opening.policy
   pub checked : next.checked ≡ opening.checked
+  pub root : next.root ≡ opening.root
   pub first : opening.first ≤ next.first
   pub above : All (λ entry. counter_of (stamp_in entry.mark) ≤ next.first) entries
   pub histories : List (List Mark)

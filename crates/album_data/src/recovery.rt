@@ -47,8 +47,7 @@ where
 }
 
 /// The opening with which the next epoch begins, after one that opened on this, and whose log has this text of whole
-/// lines. The counts and the policy stay. The rows and their stamps are what the log has,
-/// folded.
+/// lines. The counts, the policy and the root stay. The rows and their stamps are what the log has, folded.
 ///
 /// # Errors
 ///

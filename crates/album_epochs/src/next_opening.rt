@@ -15,7 +15,7 @@ use std::alloc::{AllocError, Global};
 pub const MARGIN: u64 = 1 << 24;
 
 /// The opening with which the next epoch begins, after one that opened on this, and whose partitions have made these
-/// histories. The counts and the policy stay. Clocks begin above the counter, and above those of the epochs before. The
+/// histories. The counts, the policy and the root stay. Clocks begin above the counter, and above those of the epochs before. The
 /// rows and their stamps are the histories, folded.
 ///
 /// # Errors
@@ -38,12 +38,14 @@ pub fn opening_after(
     if before >= MAX_COUNTER - MARGIN {
         return Err(Refusal::StampsSpent);
     }
+    let root = opening.root.clone()?;
     let (items, stamps) = fold(alloc, opening.items.as_slice(), &opening.stamps, histories)?;
     Ok(Opening {
         parts: opening.parts,
         limit: opening.limit,
         policy: opening.policy,
         checked: opening.checked,
+        root,
         first: before + MARGIN,
         items,
         stamps,

@@ -1,7 +1,7 @@
 -- What the policies give, and that nothing else differs between them, for the law `given_to_owners`.
-use Rattle.std.proofs.Common.{◌≡◌, ◌<◌, ◌+◌, ◌&&◌, ◌==◌, ◌||◌, ◌∙◌, ◌⊎◌, ℕ, zero, suc, min, bit_and, map, List, [], ◌∷◌, Bool, true, false, not, refl, sym, ap, arith, inl, inr}
+use Rattle.std.proofs.Common.{◌≡◌, ◌<◌, ◌+◌, ◌&&◌, ◌==◌, ◌||◌, ◌∙◌, ◌⊎◌, ℕ, min, bit_and, map, List, [], ◌∷◌, Bool, true, false, not, refl, sym, ap, arith, inl, inr}
 use Rattle.std.specs.Int.{bit_at}
-use Rattle.std.specs.List.{position_or_len, filter, enumerate_from}
+use Rattle.std.specs.List.{filter, enumerate_from}
 use Rattle.std.proofs.lemmas.Bool.{cases_Bool, and_parts, and_from, not-true, both_ways, or_cases, or_from, or_left, or_right, eqb-true, eq-eqb, ne_eqb}
 use Rattle.std.proofs.lemmas.Nat.Bits.{bit_at_and, bit_at-lt}
 use Rattle.album_access.specs.Bits.{mask_bits, has_bit, has_flag, is_within}
@@ -14,13 +14,14 @@ use Rattle.album_eval.specs.declared.policies.Policy.{Policy}
 use Rattle.album_eval.specs.declared.policies.Policy.TheVariants.{One, Two, Three}
 use Rattle.album_eval.specs.declared.verdicts.Verdict.TheVariants.{Granted, DeniedAtEnd}
 use Rattle.album_eval.specs.Audit.{is_noting, meets, outcome_flag, is_noted, audited}
-use Rattle.album_eval.specs.Matching.{Case, is_user, is_for, is_match, is_of_group}
+use Rattle.album_eval.specs.Matching.{Case, owns, is_for, is_match, is_of_group}
 use Rattle.album_eval.specs.Policies.{is_given, has_owners_way, acl_bits, is_owners_way, under}
-use Rattle.album_eval.specs.Verdict.{is_asked, first_mention, mentions, allows_or_denies, IsVerdict, Tally, tally_below, verdict_by, verdict}
+use Rattle.album_eval.specs.Verdict.{is_asked, first_mention, IsVerdict, verdict}
 use Rattle.album_eval.proofs.Asking.{within_mention, two_bits}
+use Rattle.album_eval.proofs.Comparing.{verdict-same}
 use Rattle.album_eval.proofs.Computing.{one_verdict, verdict_computed}
 
--- ---- first mentions are the same
+-- ---- verdicts are the same where the same is asked
 
 module _ (p q : Policy) where
   for_same : (case : Case) (w : Who) → is_for (under p case) w ≡ is_for (under q case) w
@@ -32,40 +33,26 @@ module _ (p q : Policy) where
   for_same case who.Anonymous = refl
   for_same case who.Authenticated = refl
 
-  mentions_same : (case : Case) (bit : ℕ) (x : Ace) → mentions (under p case) bit x ≡ mentions (under q case) bit x
-  unfolding mentions is_match
-  mentions_same case bit x = ap (λ (b : Bool). not (is_only_inherited x.flags) && b && allows_or_denies x.sort && has_bit x.mask bit) (for_same case x.who)
-
-  first_same : (case : Case) (bit : ℕ) (entries : List Ace) → first_mention (under p case) bit entries ≡ first_mention (under q case) bit entries
-  unfolding first_mention
-  first_same case bit entries = rw (place entries) refl
-    where
-      place : (xs : List Ace) → position_or_len (mentions (under p case) bit) xs ≡ position_or_len (mentions (under q case) bit) xs
-      place [] = refl
-      place (x ∷ xs) = rw (mentions_same case bit x, place xs) refl
-
-  -- ---- verdicts are the same where the same is asked
-
-  tally_same : (case : Case) (entries : List Ace) (mask : Mask) → ((bit : ℕ) → is_asked (under p case) mask bit ≡ is_asked (under q case) mask bit) → (n : ℕ) → tally_below (under p case) entries mask n ≡ tally_below (under q case) entries mask n
-  tally_same case entries mask same zero = refl
-  tally_same case entries mask same (suc n) = rw (same n, first_same case n entries, tally_same case entries mask same n) refl
+  match_same : (case : Case) (x : Ace) → is_match (under p case) x ≡ is_match (under q case) x
+  unfolding is_match
+  match_same case x = ap (λ (b : Bool). not (is_only_inherited x.flags) && b) (for_same case x.who)
 
   verdict_same : (case : Case) (entries : List Ace) (mask : Mask) → ((bit : ℕ) → is_asked (under p case) mask bit ≡ is_asked (under q case) mask bit) → verdict (under p case) entries mask ≡ verdict (under q case) entries mask
-  unfolding verdict
-  verdict_same case entries mask same = ap (λ (tally : Tally). verdict_by tally.denial tally.is_unmentioned) (tally_same case entries mask same (mask_bits mask))
+  verdict_same case entries mask same =
+      verdict-same (under p case) (under q case) entries mask (λ x c. match_same case x) same
 
 -- ---- what is given
 
 one_gives_nothing : (case : Case) (mask : Mask) (bit : ℕ) → is_asked (under One case) mask bit ≡ has_bit mask bit
 unfolding is_asked is_given
-one_gives_nothing case mask bit = go (has_bit mask bit) (is_user case.principal case.owner)
+one_gives_nothing case mask bit = go (has_bit mask bit) (owns case.principal case.owner)
   where
     go : (a b : Bool) → (a && not (b && false)) ≡ a
     go true true = refl
     go true false = refl
     go false b = refl
 
-pub others_same : (case : Case) (entries : List Ace) (mask : Mask) → is_user case.principal case.owner ≡ false → verdict (under Two case) entries mask ≡ verdict (under One case) entries mask
+pub others_same : (case : Case) (entries : List Ace) (mask : Mask) → owns case.principal case.owner ≡ false → verdict (under Two case) entries mask ≡ verdict (under One case) entries mask
 unfolding is_asked is_given
 others_same case entries mask other = verdict_same Two One case entries mask (λ bit. rw other refl)
 
@@ -79,16 +66,16 @@ other_bits_same case entries mask read write = verdict_same Two One case entries
         other : (n : ℕ) → has_bit mask n ≡ false → (bit == n) ≡ false
         other n clear = ne_eqb bit n (λ same. both_ways (has_bit mask n) clear (ap (has_bit mask) (sym same) ∙ has))
 
-pub owner_granted : (case : Case) (entries : List Ace) (mask : Mask) → is_user case.principal case.owner ≡ true → ((bit : ℕ) → has_bit mask bit ≡ true → (bit ≡ 17) ⊎ (bit ≡ 18)) → IsVerdict (under Two case) entries mask Granted
+pub owner_granted : (case : Case) (entries : List Ace) (mask : Mask) → owns case.principal case.owner ≡ true → ((bit : ℕ) → has_bit mask bit ≡ true → (bit ≡ 17) ⊎ (bit ≡ 18)) → IsVerdict (under Two case) entries mask Granted
 unfolding is_asked is_given
-owner_granted case entries mask owner acl = λ bit asked. absurd (go bit (and_parts (has_bit mask bit) (not (is_user case.principal case.owner && (bit == 17 || bit == 18))) asked))
+owner_granted case entries mask owner acl = λ bit asked. absurd (go bit (and_parts (has_bit mask bit) (not (owns case.principal case.owner && (bit == 17 || bit == 18))) asked))
   where
     given : (bit : ℕ) → (bit ≡ 17) ⊎ (bit ≡ 18) → (bit == 17 || bit == 18) ≡ true
     given bit (inl is) = or_left (bit == 17) (bit == 18) (eq-eqb bit 17 is)
     given bit (inr is) = or_right (bit == 17) (bit == 18) (eq-eqb bit 18 is)
 
-    go : (bit : ℕ) → (has_bit mask bit ≡ true) × (not (is_user case.principal case.owner && (bit == 17 || bit == 18)) ≡ true) → ⊥
-    go bit asked = both_ways (is_user case.principal case.owner && (bit == 17 || bit == 18)) (not-true _ asked.1) (and_from _ _ owner (given bit (acl bit asked.0)))
+    go : (bit : ℕ) → (has_bit mask bit ≡ true) × (not (owns case.principal case.owner && (bit == 17 || bit == 18)) ≡ true) → ⊥
+    go bit asked = both_ways (owns case.principal case.owner && (bit == 17 || bit == 18)) (not-true _ asked.1) (and_from _ _ owner (given bit (acl bit asked.0)))
 
 pub three_as_two : (case : Case) (entries : List Ace) (mask : Mask) → verdict (under Three case) entries mask ≡ verdict (under Two case) entries mask
 unfolding is_asked is_given
@@ -123,10 +110,10 @@ acl_alone mask within bit has =
 pub way_granted : (case : Case) (entries : List Ace) (mask : Mask) → is_owners_way case mask ≡ true → verdict case entries mask ≡ Granted
 way_granted case entries mask way = by case.policy refl
   where
-    parts : (has_owners_way case.policy ≡ true) × (is_user case.principal case.owner ≡ true) × (is_within (mask_bits mask) acl_bits ≡ true)
+    parts : (has_owners_way case.policy ≡ true) × (owns case.principal case.owner ≡ true) × (is_within (mask_bits mask) acl_bits ≡ true)
     parts =
-        let all = and_parts (has_owners_way case.policy && is_user case.principal case.owner) (is_within (mask_bits mask) acl_bits) way in
-        let both = and_parts (has_owners_way case.policy) (is_user case.principal case.owner) all.0 in (both.0, both.1, all.1)
+        let all = and_parts (has_owners_way case.policy && owns case.principal case.owner) (is_within (mask_bits mask) acl_bits) way in
+        let both = and_parts (has_owners_way case.policy) (owns case.principal case.owner) all.0 in (both.0, both.1, all.1)
 
     by : (policy : Policy) → case.policy ≡ policy → verdict case entries mask ≡ Granted
     by One e = absurd (both_ways (has_owners_way case.policy) (ap has_owners_way e) parts.0)

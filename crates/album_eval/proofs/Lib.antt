@@ -4,5 +4,7 @@ pub mod Asking
 pub mod Tallying
 pub mod Computing
 pub mod Passing
+pub mod Comparing
 pub mod Giving
+pub mod Acting
 pub mod Principals

@@ -6,7 +6,7 @@ use Rattle.album_lists.proofs.Ends.{one_end}
 use Rattle.album_lists.proofs.Spelling.{spelled_user, user_spelled}
 use Rattle.album_eval.specs.Matching.{IsPrincipalText, principal_of}
 use Rattle.album_eval.specs.declared.facts.Principal.{Principal}
-use Rattle.album_eval.specs.declared.facts.Principal.TheVariants.{Anonymous, User}
+use Rattle.album_eval.specs.declared.facts.Principal.TheVariants.{Anonymous, User, Root}
 
 -- a user's text isn't Anonymous's: it ends in another letter
 user_not_anonymous : (name text : List ℕ) → IsUserText name text → bytes_eq text (codes "ANONYMOUS@") ≡ false
@@ -23,6 +23,7 @@ pub spelled_principal : (p : Principal) (text : List ℕ) → IsPrincipalText p 
 unfolding principal_of
 spelled_principal Anonymous text is = rw is refl
 spelled_principal (User name) text is = rw (user_not_anonymous name text is, spelled_user name text is) refl
+spelled_principal (Root name) text is = absurd is
 
 pub principal_spelled : (p : Principal) (text : List ℕ) → principal_of text ≡ Some p → IsPrincipalText p text
 unfolding principal_of

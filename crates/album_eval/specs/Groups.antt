@@ -20,6 +20,7 @@ pub data IsIn (listed : ℕ → List Member) (user : List ℕ) : ℕ → Type 0 
 abbrev pub IsMember : (ℕ → List Member) → Principal → ℕ → Type 0
 IsMember listed principal.Anonymous group = ⊥
 IsMember listed (principal.User user) group = IsIn listed user group
+IsMember listed (principal.Root user) group = IsIn listed user group
 
 -- what a group of a map lists: nobody where the group is missing
 abbrev pub members_found : Option (Vec Member Global) → List Member

@@ -27,11 +27,10 @@ pub fn members(
         → IsTrue (set.contains nat_cmp found group) ↔ IsMember (listed_in groups.now) principal.now group) }
     ensures memory { IsOkUnless result Refusal.OutOfMemory }
 {
-    let Principal::User(user) = principal else {
-        return Ok(BTreeSet::new(alloc));
-    };
-    let found = groups_of(alloc, groups, user)?;
-    Ok(found)
+    match principal {
+        Principal::Anonymous => Ok(BTreeSet::new(alloc)),
+        Principal::User(user) | Principal::Root(user) => Ok(groups_of(alloc, groups, user)?),
+    }
 }
 
 /// The groups that the user is in. Each is put on the worklist once, when it is found.

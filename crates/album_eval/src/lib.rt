@@ -13,8 +13,8 @@ mod notes;
 mod policies;
 mod verdicts;
 
-pub use facts::{Facts, Principal, principals_by_text};
+pub use facts::{Facts, Principal, principals_by_text, root_by_name};
 pub use groups::members;
 pub use notes::{audits, owners_way_is_noted_without_groups};
 pub use policies::Policy;
-pub use verdicts::{Verdict, evaluate, given_to_owners, one_verdict};
+pub use verdicts::{Verdict, evaluate, given_to_owners, one_verdict, root_as_owner};

@@ -76,13 +76,13 @@ fn is_noted(facts: &Facts, mask: Mask, success: bool, entry: &Ace) -> bool
         && entry.flags.contains(outcome)
 }
 
-/// Whether the principal is the owner, and asks for no more than the policy gives to it.
+/// Whether the principal is the owner, or root, and asks for no more than the policy gives to it.
 fn is_owners_way(facts: &Facts, mask: Mask) -> bool
     ensures { result ≡ is_owners_way (case_of facts.now) mask }
 {
     let given = Mask::READ_ACL.union(Mask::WRITE_ACL).bits();
     facts.policy.has_owners_way()
-        && facts.principal.is_user(facts.owner)
+        && facts.principal.owns(facts.owner)
         && mask.bits() & given == mask.bits()
 }
 

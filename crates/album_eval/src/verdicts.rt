@@ -1,12 +1,14 @@
 //! What an access list says of a request.
-ghost use Rattle.std.specs.Prelude.{◌≡◌, ◌&&◌, ◌⊎◌, ℕ, List, [], true, false, not};
+ghost use Rattle.std.specs.Prelude.{◌≡◌, ◌&&◌, ◌⊎◌, ℕ, List, [], Bool, true, false, not};
 ghost use Rattle.album_access.specs.Bits.{has_bit};
 ghost use Rattle.album_access.specs.declared.masks.Mask.{Mask};
 ghost use Rattle.album_lists.specs.declared.lists.Ace.{Ace};
+ghost use Rattle.album_eval.specs.declared.facts.Principal.TheVariants as principal;
 ghost use Rattle.album_eval.specs.declared.policies.Policy.TheVariants.{One, Two, Three};
 ghost use Rattle.album_eval.specs.declared.verdicts.Verdict.{Verdict};
 ghost use Rattle.album_eval.specs.declared.verdicts.Verdict.TheVariants.{Granted, DeniedAtEnd};
-ghost use Rattle.album_eval.specs.Matching.{Case, case_of, is_user};
+ghost use Rattle.album_eval.specs.Audit.{audited};
+ghost use Rattle.album_eval.specs.Matching.{Case, case_of, owns, asked_by, IsUnnamed};
 ghost use Rattle.album_eval.specs.Policies.{is_given, is_owners_way, under};
 ghost use Rattle.album_eval.specs.Verdict.{IsVerdict, verdict};
 
@@ -34,16 +36,16 @@ pub fn one_verdict()
         → IsVerdict case entries mask (verdict case entries mask) }
 {}
 
-/// A law: the policies differ only where the owner asks for READ_ACL (bit 17) or WRITE_ACL (bit 18). Two grants the
-/// owner these two, whatever the list, and Three says the same of each request, so what is asked by the owner's way is
-/// granted; under One an empty list grants nothing.
+/// A law: the policies differ only where the owner, or root, asks for READ_ACL (bit 17) or WRITE_ACL (bit 18). Two
+/// grants it these two, whatever the list, and Three says the same of each request, so what is asked by the owner's way
+/// is granted; under One an empty list grants nothing.
 pub fn given_to_owners()
-    ensures others { (case : Case) (entries : List Ace) (mask : Mask) → is_user case.principal case.owner ≡ false
+    ensures others { (case : Case) (entries : List Ace) (mask : Mask) → owns case.principal case.owner ≡ false
         → verdict (under Two case) entries mask ≡ verdict (under One case) entries mask }
     ensures other_bits { (case : Case) (entries : List Ace) (mask : Mask)
         → has_bit mask 17 ≡ false → has_bit mask 18 ≡ false
         → verdict (under Two case) entries mask ≡ verdict (under One case) entries mask }
-    ensures given { (case : Case) (entries : List Ace) (mask : Mask) → is_user case.principal case.owner ≡ true
+    ensures given { (case : Case) (entries : List Ace) (mask : Mask) → owns case.principal case.owner ≡ true
         → ((bit : ℕ) → has_bit mask bit ≡ true → (bit ≡ 17) ⊎ (bit ≡ 18))
         → IsVerdict (under Two case) entries mask Granted }
     ensures three { (case : Case) (entries : List Ace) (mask : Mask)
@@ -52,6 +54,23 @@ pub fn given_to_owners()
         → verdict case entries mask ≡ Granted }
     ensures no_list { (case : Case) (mask : Mask) (bit : ℕ) → has_bit mask bit ≡ true
         → IsVerdict (under One case) [] mask DeniedAtEnd }
+{}
+
+/// A law: root is judged on each object as its owner would be who is in the same groups, wherever no entry names either
+/// of the two, and the same entries take note of it. Under Three it is given READ_ACL and WRITE_ACL on each object,
+/// whatever the list.
+pub fn root_as_owner()
+    ensures same { (case : Case) (user : List ℕ) (entries : List Ace) (mask : Mask)
+        → IsUnnamed user entries → IsUnnamed case.owner entries
+        → verdict (asked_by (principal.Root user) case) entries mask
+        ≡ verdict (asked_by (principal.User case.owner) case) entries mask }
+    ensures noted { (case : Case) (user : List ℕ) (entries : List Ace) (mask : Mask) (success : Bool)
+        → IsUnnamed user entries → IsUnnamed case.owner entries
+        → audited (asked_by (principal.Root user) case) mask success entries
+        ≡ audited (asked_by (principal.User case.owner) case) mask success entries }
+    ensures given { (case : Case) (user : List ℕ) (entries : List Ace) (mask : Mask)
+        → ((bit : ℕ) → has_bit mask bit ≡ true → (bit ≡ 17) ⊎ (bit ≡ 18))
+        → verdict (under Three (asked_by (principal.Root user) case)) entries mask ≡ Granted }
 {}
 
 /// What the list says of a request for the bits of the mask (RFC 7530, section 6.2.1), under the policy. The entries
@@ -90,7 +109,7 @@ pub fn evaluate(list: &AccessList, facts: &Facts, mask: Mask) -> Verdict
 fn given(facts: &Facts) -> Mask
     ensures { (bit : ℕ) → has_bit result bit ≡ is_given (case_of facts.now) bit }
 {
-    if facts.principal.is_user(facts.owner) {
+    if facts.principal.owns(facts.owner) {
         facts.policy.owner_bits()
     } else {
         Mask::empty()

@@ -10,7 +10,7 @@ use Rattle.album_eval.specs.declared.verdicts.Verdict.TheVariants as verdict
 use Rattle.album_lines.specs.Spelling.{list_data, whole_data}
 use Rattle.album_explain.specs.declared.decisions.Decision.{Decision}
 use Rattle.album_explain.specs.declared.decisions.Decision.TheVariants as decision
-use Rattle.album_explain.specs.Explanations.{Place, Row, refused_at, refused_json, decision_word, decision_at_json, bit_json, groups_json, explanation_json}
+use Rattle.album_explain.specs.Explanations.{Place, Row, refused_at, refused_json, decision_word, decision_at_json, bit_json, explanation_json}
 
 at_place : (number : ℕ) (refusal : Refusal) (at : List ℕ) (value : Option ℕ) → has_float (refused_at number refusal at value) ≡ false
 at_place number refusal at None = refl

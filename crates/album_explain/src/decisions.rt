@@ -17,7 +17,7 @@ use bitflags::Flags;
 /// How a bit is decided.
 #[derive(Clone, Copy, Debug, PartialEq, Eq)]
 pub enum Decision {
-    /// The policy gives it to the owner, before the list is looked at.
+    /// The policy gives it to the owner, or to root, before the list is looked at.
     Given,
     /// It is allowed, by the first entry that mentions it, at this index from 0.
     AllowedBy(usize),
@@ -101,7 +101,7 @@ pub(crate) fn has_bit(mask: Mask, bit: u32) -> bool
 fn is_given(facts: &Facts, bit: u32) -> bool
     ensures { result ≡ is_given (case_of facts.now) bit }
 {
-    facts.principal.is_user(facts.owner) && gives_owner(facts.policy, bit)
+    facts.principal.owns(facts.owner) && gives_owner(facts.policy, bit)
 }
 
 /// Whether the policy gives the owner this bit: Two and Three give READ_ACL, which is bit 17, and WRITE_ACL, bit 18.
@@ -131,10 +131,10 @@ fn is_for(facts: &Facts, who: &Who) -> bool
     match who {
         Who::User(name) => facts.principal.is_user(name),
         Who::Group(number) => facts.groups.contains(number),
-        Who::Owner => facts.principal.is_user(facts.owner),
+        Who::Owner => facts.principal.owns(facts.owner),
         Who::OwnerGroup => facts.groups.contains(&facts.head_group),
         Who::Everyone => true,
         Who::Anonymous => matches!(facts.principal, Principal::Anonymous),
-        Who::Authenticated => matches!(facts.principal, Principal::User(_)),
+        Who::Authenticated => matches!(facts.principal, Principal::User(_) | Principal::Root(_)),
     }
 }

@@ -49,6 +49,7 @@ any_header =
       limit = DEFAULT_LIMIT;
       policy = DEFAULT_POLICY;
       checked = false;
+      root = None;
       first = 0;
       trace = false;
     }

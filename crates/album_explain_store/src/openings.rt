@@ -44,12 +44,13 @@ pub struct SoFar {
     pub lines: Vec<u64>,
 }
 
-/// The header that is thought of where the first line is refused: none of its numbers is wrong.
+/// The header that is thought of where the first line is refused: none of its numbers is wrong, and it has no root.
 const ANY_HEADER: Header = Header {
     parts: 1,
     limit: DEFAULT_LIMIT,
     policy: DEFAULT_POLICY,
     checked: false,
+    root: None,
     first: 0,
     trace: false,
 };
@@ -118,7 +119,7 @@ fn explain_first(
         Unopened number t.0.1 t.0.0.items (stage_of t.1)) }
 {
     let header = first_header(alloc, scratch, line);
-    let reading = header_reading(header);
+    let reading = header_reading(&header);
     let explanation = explain_reading(alloc, scratch, line, number, Table::Opening, reading)?;
     Ok((explanation, opened_by(alloc, header, number)))
 }
@@ -127,20 +128,20 @@ fn explain_first(
 fn first_header(alloc: Global, scratch: &mut Scratch, line: &LineIn) -> Result<Header, Refusal>
     ensures { Gives (λ header. header) result (header_said (read_by opening_line_of (said line.now))) }
 {
-    match opening_line(alloc, scratch, line)? {
-        OpeningLine::Open(header) => Ok(header),
-        OpeningLine::Item(..) | OpeningLine::Begin => Err(Refusal::BadRequest),
-    }
+    let OpeningLine::Open(header) = opening_line(alloc, scratch, line)? else {
+        return Err(Refusal::BadRequest);
+    };
+    Ok(header)
 }
 
-fn header_reading(header: Result<Header, Refusal>) -> Result<Taken, Refusal>
-    ensures { result ≡ header_reading header }
+fn header_reading(header: &Result<Header, Refusal>) -> Result<Taken, Refusal>
+    ensures { result ≡ header_reading header.now }
 {
     match header {
         Ok(header) => Ok(taken_opening(Kind::Open {
             checked: header.checked,
         })),
-        Err(refusal) => Err(refusal),
+        Err(refusal) => Err(*refusal),
     }
 }
 

@@ -1,11 +1,11 @@
--- What partitions may open on: `opening_is_base` is for the law of `openings`. Of rows that rise no item has two
+-- What partitions may open on: `opening_is_base` is for the law of `openings`, as `root_by_policy`. Of rows that rise no item has two
 -- (`rising_single`), and a row that is below the next one is below all (`rises_at`).
-use Rattle.std.proofs.Common.{◌≡◌, ◌==◌, ◌&&◌, ◌||◌, ◌<◌, ℕ, List, [], ◌∷◌, length, slice_index_or, nat_le, nat_lt, Bool, true, false, not, refl, sym, ap, ◌∙◌, subst, arith, if◌then◌else◌, eqb-true}
+use Rattle.std.proofs.Common.{◌≡◌, ◌==◌, ◌&&◌, ◌||◌, ◌<◌, ℕ, List, [], ◌∷◌, length, slice_index_or, nat_le, nat_lt, Bool, true, false, not, Some, refl, sym, ap, ◌∙◌, subst, arith, if◌then◌else◌, eqb-true}
 use Rattle.std.specs.List.{list_all, list_any}
 use Rattle.std.proofs.lemmas.Bool.{and_parts, and_from, leb-true, leb-false}
 use Rattle.album_stamps.specs.Distinct.{no_two}
 use Rattle.album_items.specs.FirstStamps.{are_early}
-use Rattle.album_items.specs.Openings.{Row, has_own_value, is_low_row, has_few_children, has_single_children, is_right_row, has_counts, has_few_items, has_single_rows, has_own_lists, has_fit_lists, are_first_rows, is_not_above, are_rising, are_later_rows, greatest_number, is_opening, is_base_opening, same_item}
+use Rattle.album_items.specs.Openings.{Row, has_own_value, is_low_row, has_few_children, has_single_children, is_right_row, has_counts, has_root, has_few_items, has_single_rows, has_own_lists, has_fit_lists, are_first_rows, is_not_above, are_rising, are_later_rows, greatest_number, is_opening, is_base_opening, same_item}
 use Rattle.album_items.specs.declared.openings.Opening.{Opening}
 
 -- ---- rows that rise
@@ -117,10 +117,11 @@ low_rows (row ∷ rows) h =
 
 pub opening_is_base : (o : Opening) → is_opening o ≡ true → is_base_opening o ≡ true
 opening_is_base o is =
-    let rows = and_parts (has_counts o && (if o.first == 0 then are_first_rows o.items else are_later_rows o.first o.items))
+    let rows = and_parts (has_counts o && has_root o.policy o.root && (if o.first == 0 then are_first_rows o.items else are_later_rows o.first o.items))
     (are_early (greatest_number o.first) o.stamps) is in
-    let both = and_parts (has_counts o) (if o.first == 0 then are_first_rows o.items else are_later_rows o.first o.items) rows.0 in
-    and_from (has_counts o) (has_single_rows o.items && list_all has_own_value o.items && list_all (is_low_row (greatest_number o.first)) o.items) both.0
+    let both = and_parts (has_counts o && has_root o.policy o.root) (if o.first == 0 then are_first_rows o.items else are_later_rows o.first o.items) rows.0 in
+    let counts = and_parts (has_counts o) (has_root o.policy o.root) both.0 in
+    and_from (has_counts o) (has_single_rows o.items && list_all has_own_value o.items && list_all (is_low_row (greatest_number o.first)) o.items) counts.0
     (go (o.first == 0) refl both.1)
   where
     go : (t : Bool) → (o.first == 0) ≡ t → (if t then are_first_rows o.items else are_later_rows o.first o.items) ≡ true
@@ -138,3 +139,12 @@ opening_is_base o is =
         let first = and_parts (are_rising o.items) (list_all has_own_value o.items) parts.0 in
         and_from (has_single_rows o.items && list_all has_own_value o.items) (list_all (is_low_row (greatest_number o.first)) o.items)
         (and_from (has_single_rows o.items) (list_all has_own_value o.items) (rising_single o.items first.0) first.1) parts.1
+
+-- a root is named by policy 3 alone
+pub root_by_policy : (o : Opening) (root : List ℕ) → is_opening o ≡ true → o.root ≡ Some root → o.policy ≡ 3
+root_by_policy o root is named =
+    let rows = and_parts (has_counts o && has_root o.policy o.root && (if o.first == 0 then are_first_rows o.items else are_later_rows o.first o.items))
+    (are_early (greatest_number o.first) o.stamps) is in
+    let both = and_parts (has_counts o && has_root o.policy o.root) (if o.first == 0 then are_first_rows o.items else are_later_rows o.first o.items) rows.0 in
+    let right = and_parts (has_counts o) (has_root o.policy o.root) both.0 in
+    eqb-true o.policy 3 (subst (λ r. has_root o.policy r ≡ true) named right.1)

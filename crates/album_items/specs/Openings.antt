@@ -116,6 +116,11 @@ has_limit limit = nat_le MIN_MARKS limit && nat_le limit MAX_MARKS
 abbrev pub has_policy : ℕ → Bool
 has_policy policy = policy == 1 || policy == 2 || policy == 3
 
+-- a root is named by policy 3 alone
+abbrev pub has_root : ℕ → Option (List ℕ) → Bool
+has_root policy None = true
+has_root policy (Some root) = policy == 3
+
 -- the counters of the stamps that the epochs before drew are at most one that a stamp may have
 abbrev pub has_first : ℕ → Bool
 has_first first = nat_le first MAX_COUNTER
@@ -168,7 +173,7 @@ are_later_rows first rows =
 -- all that an opening must be
 abbrev pub is_opening : Opening → Bool
 is_opening opening =
-    has_counts opening
+    has_counts opening && has_root opening.policy opening.root
     && (if opening.first == 0 then are_first_rows opening.items else are_later_rows opening.first opening.items)
     && are_early (greatest_number opening.first) opening.stamps
 

@@ -26,7 +26,10 @@ mod pairs;
 pub use collections::{ItemValues, Items, Members};
 pub use first_stamps::FirstStamps;
 pub use item_ids::{ItemId, Kind, items_by_text, place, read_item};
-pub use openings::{Opening, an_opening_is_a_base, are_distinct, has_own_value, has_single_rows};
+pub use openings::{
+    Opening, a_root_is_of_policy_3, an_opening_is_a_base, are_distinct, has_own_value,
+    has_single_rows,
+};
 pub use places::{lies_at, others_of, places_of, rows_placed_at};
 pub use shared_values::SharedValue;
 pub use texts::{Content, Title};

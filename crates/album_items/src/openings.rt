@@ -1,18 +1,19 @@
 //! The state that the service opens with.
-ghost use Rattle.std.specs.Prelude.{◌≡◌, ◌==◌, ◌&&◌, ◌∷◌, ◌≤◌, true, false, MatchResult, if◌then◌else◌};
+ghost use Rattle.std.specs.Prelude.{◌≡◌, ◌==◌, ◌&&◌, ◌∷◌, ◌≤◌, true, false, ℕ, List, Some, MatchResult, if◌then◌else◌};
 ghost use Rattle.std.specs.List.{list_all, list_any};
 ghost use Rattle.album_stamps.specs.declared.refusals.Refusal.TheVariants.{BadOpening};
 ghost use Rattle.album_stamps.specs.Distinct.{are_distinct};
 ghost use Rattle.album_stamps.specs.declared.limits.TheConstants.{MAX_COUNTER};
 ghost use Rattle.album_items.specs.Values.{children_of};
 ghost use Rattle.album_items.specs.declared.openings.Opening.{Opening as Made};
-ghost use Rattle.album_items.specs.Openings.{has_own_value, is_low, are_low, has_low_numbers, is_low_row, has_single_children, has_few_children, same_item, is_right_row, has_parts, has_limit, has_policy, has_first, greatest_number, has_counts, has_few_items, has_single_rows, has_own_lists, has_fit_lists, are_first_rows, are_rising, are_later_rows, is_opening, is_base_opening};
+ghost use Rattle.album_items.specs.Openings.{has_own_value, is_low, are_low, has_low_numbers, is_low_row, has_single_children, has_few_children, same_item, is_right_row, has_parts, has_limit, has_policy, has_root, has_first, greatest_number, has_counts, has_few_items, has_single_rows, has_own_lists, has_fit_lists, are_first_rows, are_rising, are_later_rows, is_opening, is_base_opening};
 
 use crate::collections::{ItemValues, Items};
 use crate::first_stamps::FirstStamps;
 use crate::item_ids::ItemId;
 use crate::pairs;
 use crate::values::Value;
+use album_lists::Name;
 use album_stamps::{
     CLIENTS, MAX_CHILDREN, MAX_COUNTER, MAX_MARKS, MAX_OPENING_ITEMS, MAX_OPENING_NUMBER,
     MAX_PARTS, MIN_MARKS, Refusal,
@@ -20,7 +21,7 @@ use album_stamps::{
 
 /// The state that the service opens with: how many partitions there are, how many marks the
 /// history of each may have, the number of the policy that lists are judged by, whether writes are
-/// checked, above which counter stamps are drawn, and the first values of items with their stamps.
+/// checked, who is root, above which counter stamps are drawn, and the first values of items with their stamps.
 #[derive(Debug, Drop)]
 pub struct Opening {
     /// How many partitions there are: 1 to `MAX_PARTS`.
@@ -32,6 +33,8 @@ pub struct Opening {
     /// Whether each write is committed only on the versions that its author saw. Where it isn't, of two
     /// writes of one item that race the greater stamp wins, and the other is lost.
     pub checked: bool,
+    /// Who has on each object what its owner has: perhaps a user, by policy 3 alone.
+    pub root: Option<Name>,
     /// The greatest counter of the stamps that the epochs before this one drew, at most `MAX_COUNTER`, and 0 in a
     /// first epoch: the counter of each stamp that is drawn is greater.
     pub first: u64,
@@ -44,8 +47,8 @@ pub struct Opening {
 }
 
 impl Opening {
-    /// Whether the service may open with it: its counts, then each item by itself, then the items together, then the
-    /// stamps. A later epoch's items rise, and each has a value of its kind and numbers that the epochs before gave.
+    /// Whether the service may open with it: its counts, then its root, then each item by itself, then the items
+    /// together, then the stamps. A later epoch's items rise, and each has a value of its kind and numbers that the epochs before gave.
     ///
     /// # Errors
     ///
@@ -66,6 +69,7 @@ impl Opening {
         ensures { result ≡ is_opening self.now }
     {
         self.has_counts()
+            && self.has_root()
             && self.has_rows()
             && self
                 .stamps
@@ -94,6 +98,16 @@ impl Opening {
         self.has_limits() && has_policy(self.policy) && self.first <= MAX_COUNTER
     }
 
+    /// Whether a root is named by policy 3 alone.
+    fn has_root(&self) -> bool
+        ensures { result ≡ has_root self.now.policy self.now.root }
+    {
+        match self.root {
+            None => true,
+            Some(_) => self.policy == 3,
+        }
+    }
+
     /// Whether the partitions and their marks are neither too few nor too many.
     fn has_limits(&self) -> bool
         ensures { result ≡ (has_parts self.now.parts && has_limit self.now.limit) }
@@ -106,6 +120,12 @@ impl Opening {
 /// A law: each opening that passes its check is what partitions may open on.
 pub fn an_opening_is_a_base()
     ensures { (opening : Made) → is_opening opening ≡ true → is_base_opening opening ≡ true }
+{}
+
+/// A law: where an opening that passes its check names a root, lists are judged by policy 3.
+pub fn a_root_is_of_policy_3()
+    ensures { (opening : Made) (root : List ℕ) → is_opening opening ≡ true → opening.root ≡ Some root
+        → opening.policy ≡ 3 }
 {}
 
 /// Whether there is a policy of the number.

@@ -11,7 +11,7 @@ use Rattle.album_access.specs.declared.masks.Mask.{Mask}
 use Rattle.album_lists.specs.declared.whos.Member.{Member}
 use Rattle.album_eval.proofs.Giving.{other_bits_same, three_as_two, way_granted}
 use Rattle.album_eval.specs.Groups.{IsMember}
-use Rattle.album_eval.specs.Matching.{is_user}
+use Rattle.album_eval.specs.Matching.{owns}
 use Rattle.album_eval.specs.Policies.{is_owners_way}
 use Rattle.album_eval.specs.Verdict.{verdict}
 use Rattle.album_eval.specs.declared.facts.Principal.{Principal}
@@ -63,7 +63,7 @@ pub groupless-bare :
     → is_groupless (λ i. bare (lookup i)) looker asked item ≡ is_groupless lookup looker asked item
 groupless-bare lookup None asked item = refl
 groupless-bare lookup (Some principal) asked item =
-    ap (λ (o : Option Head). option_map_or (λ (head : Head). is_user principal head.owner) o false && needs_list_alone asked item)
+    ap (λ (o : Option Head). option_map_or (λ (head : Head). owns principal head.owner) o false && needs_list_alone asked item)
     (head-bare (lookup item))
 
 pub home-bare : (v : Value) → home_of (bare v) ≡ home_of v

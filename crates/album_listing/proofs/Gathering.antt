@@ -9,6 +9,7 @@ use Rattle.std.proofs.lemmas.Slice.Eq.{bytes_eq-Decides}
 use Rattle.album_lists.specs.declared.whos.Member.{Member}
 use Rattle.album_lists.specs.declared.whos.Member.TheVariants as member
 use Rattle.album_eval.specs.Groups.{IsIn, IsMember}
+use Rattle.album_eval.specs.Matching.{is_user}
 use Rattle.album_eval.specs.Groups.IsIn.{by_name, by_group}
 use Rattle.album_eval.specs.declared.facts.Principal.{Principal}
 use Rattle.album_eval.specs.declared.facts.Principal.TheVariants as principal
@@ -149,6 +150,7 @@ pub member-along :
     → (number : ℕ) → IsMember a p number → IsMember b p number
 member-along a b principal.Anonymous same number m = m
 member-along a b (principal.User user) same number m = in-along a b user same number m
+member-along a b (principal.Root user) same number m = in-along a b user same number m
 
 -- ---- members that may bring a principal in
 
@@ -178,31 +180,34 @@ in-kept p (y ∷ ys) x t (suc k, l, e) = go (p y) (in-kept p ys x t (k, omega ar
 
 -- the user is in the same groups by them
 in-all :
-    (f : ℕ → List Member) (user : List ℕ) (number : ℕ)
-    → IsIn (λ n. filter (may_bring_in (principal.User user)) (f n)) user number → IsIn f user number
-in-all f user number (by_name n c) = by_name n (kept-in (may_bring_in (principal.User user)) (f n) (member.User user) c)
-in-all f user number (by_group n inner c h) =
-    by_group n inner (kept-in (may_bring_in (principal.User user)) (f n) (member.Group inner) c) (in-all f user inner h)
+    (f : ℕ → List Member) (p : Principal) (user : List ℕ) (number : ℕ)
+    → IsIn (λ n. filter (may_bring_in p) (f n)) user number → IsIn f user number
+in-all f p user number (by_name n c) = by_name n (kept-in (may_bring_in p) (f n) (member.User user) c)
+in-all f p user number (by_group n inner c h) =
+    by_group n inner (kept-in (may_bring_in p) (f n) (member.Group inner) c) (in-all f p user inner h)
 
 in-few :
-    (f : ℕ → List Member) (user : List ℕ) (number : ℕ)
-    → IsIn f user number → IsIn (λ n. filter (may_bring_in (principal.User user)) (f n)) user number
-in-few f user number (by_name n c) =
-    by_name n (in-kept (may_bring_in (principal.User user)) (f n) (member.User user) ((bytes_eq-Decides user user).1 refl) c)
-in-few f user number (by_group n inner c h) =
-    by_group n inner (in-kept (may_bring_in (principal.User user)) (f n) (member.Group inner) refl c) (in-few f user inner h)
+    (f : ℕ → List Member) (p : Principal) (user : List ℕ) (number : ℕ) → is_user p user ≡ true
+    → IsIn f user number → IsIn (λ n. filter (may_bring_in p) (f n)) user number
+in-few f p user number is (by_name n c) = by_name n (in-kept (may_bring_in p) (f n) (member.User user) is c)
+in-few f p user number is (by_group n inner c h) =
+    by_group n inner (in-kept (may_bring_in p) (f n) (member.Group inner) refl c) (in-few f p user inner is h)
 
 member-of-all :
     (f : ℕ → List Member) (p : Principal) (number : ℕ)
     → IsMember (λ n. filter (may_bring_in p) (f n)) p number → IsMember f p number
 member-of-all f principal.Anonymous number m = m
-member-of-all f (principal.User user) number m = in-all f user number m
+member-of-all f (principal.User user) number m = in-all f (principal.User user) user number m
+member-of-all f (principal.Root user) number m = in-all f (principal.Root user) user number m
 
 member-of-few :
     (f : ℕ → List Member) (p : Principal) (number : ℕ)
     → IsMember f p number → IsMember (λ n. filter (may_bring_in p) (f n)) p number
 member-of-few f principal.Anonymous number m = m
-member-of-few f (principal.User user) number m = in-few f user number m
+member-of-few f (principal.User user) number m =
+    in-few f (principal.User user) user number ((bytes_eq-Decides user user).1 refl) m
+member-of-few f (principal.Root user) number m =
+    in-few f (principal.Root user) user number ((bytes_eq-Decides user user).1 refl) m
 
 -- the groups by lists that have those members of each group that is seen
 pub groups-are :

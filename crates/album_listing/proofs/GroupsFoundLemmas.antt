@@ -232,11 +232,15 @@ module _ (who : Principal) (rows : List ReadVersion) where
   is-user (principal.User user) name number h c =
       by_name number (subst (λ (n : List ℕ). Contains (listed number) (member.User n))
       (sym ((bytes_eq-Decides user name).0 h)) c)
+  is-user (principal.Root user) name number h c =
+      by_name number (subst (λ (n : List ℕ). Contains (listed number) (member.User n))
+      (sym ((bytes_eq-Decides user name).0 h)) c)
 
   is-inner : (p : Principal) (inner number : ℕ) → IsMember listed p inner
       → Contains (listed number) (member.Group inner) → IsMember listed p number
   is-inner principal.Anonymous inner number h c = h
   is-inner (principal.User user) inner number h c = by_group number inner c h
+  is-inner (principal.Root user) inner number h c = by_group number inner c h
 
   brought : (groups : List ℕ) → AreIn groups → (number : ℕ) (m : Member) → Contains (listed number) m
       → brings_in who groups m ≡ true → IsMember listed who number
@@ -301,17 +305,18 @@ module _ (who : Principal) (rows : List ReadVersion) where
       (filter-has (test (groups_found who rows)) (groups_read rows) number (listing-read number m c)
       (member-any (brings_in who (groups_found who rows)) (listed number) m c h))
 
-  in-found : (user : List ℕ) → who ≡ principal.User user → (number : ℕ) → IsIn listed user number
+  in-found : (user : List ℕ) → is_user who user ≡ true → (number : ℕ) → IsIn listed user number
       → has (groups_found who rows) number ≡ true
-  in-found user is number (by_name n c) =
-      into-found number (member.User user) c
-      (subst (λ (p : Principal). is_user p user ≡ true) (sym is) ((bytes_eq-Decides user user).1 refl))
+  in-found user is number (by_name n c) = into-found number (member.User user) c is
   in-found user is number (by_group n inner c h) = into-found number (member.Group inner) c (in-found user is inner h)
 
 member-found : (who : Principal) (rows : List ReadVersion) (number : ℕ) → IsMember (members_seen (seen rows)) who number
     → has (groups_found who rows) number ≡ true
 member-found principal.Anonymous rows number m = absurd m
-member-found (principal.User user) rows number m = in-found (principal.User user) rows user refl number m
+member-found (principal.User user) rows number m =
+    in-found (principal.User user) rows user ((bytes_eq-Decides user user).1 refl) number m
+member-found (principal.Root user) rows number m =
+    in-found (principal.Root user) rows user ((bytes_eq-Decides user user).1 refl) number m
 
 pub basis-based : (policy : Policy) (who : Principal) (rows : List ReadVersion)
     → IsBasis policy who rows (basis_on policy who rows)

@@ -122,6 +122,9 @@ module _ (looker : Option Principal) (ask : Ask) (one other : List ReadVersion) 
   groups-alike (principal.User user) i j a b number named =
       same-test (i number) (j number) (λ t. (b.tied number).1 (in-other user number named ((a.tied number).0 t)))
       (λ t. (a.tied number).1 (in-one user number named ((b.tied number).0 t)))
+  groups-alike (principal.Root user) i j a b number named =
+      same-test (i number) (j number) (λ t. (b.tied number).1 (in-other user number named ((a.tied number).0 t)))
+      (λ t. (a.tied number).1 (in-one user number named ((b.tied number).0 t)))
 
   -- ---- reasons
 

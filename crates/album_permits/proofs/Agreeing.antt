@@ -9,7 +9,7 @@ use Rattle.album_access.specs.Bits.{mask_bits, is_within}
 use Rattle.album_access.specs.declared.masks.Mask.{Mask}
 use Rattle.album_eval.proofs.Giving.{audited-way}
 use Rattle.album_eval.specs.Audit.{audited}
-use Rattle.album_eval.specs.Matching.{is_user}
+use Rattle.album_eval.specs.Matching.{owns}
 use Rattle.album_eval.specs.Policies.{has_owners_way, acl_bits, is_owners_way}
 use Rattle.album_eval.specs.declared.facts.Principal.{Principal}
 use Rattle.album_eval.specs.declared.policies.Policy.{Policy}
@@ -167,10 +167,10 @@ module _ (policy : Policy) (me : Principal) (one : List ReadVersion) (i : ℕ �
   for-lists : (object : ℕ) (mask : Mask) → is_within (mask_bits mask) acl_bits ≡ true → Goes object mask
   for-lists object mask within head e goes =
       let way = owner-goes policy me (seen one) asked object goes in
-      let mine : is_user me head.owner ≡ true =
-      subst (λ (o : Option Head). option_map_or (λ (head : Head). is_user me head.owner) o false ≡ true) e way.1 in
-      and_from (has_owners_way policy && is_user me head.owner) (is_within (mask_bits mask) acl_bits)
-      (and_from (has_owners_way policy) (is_user me head.owner) way.0 mine) within
+      let mine : owns me head.owner ≡ true =
+      subst (λ (o : Option Head). option_map_or (λ (head : Head). owns me head.owner) o false ≡ true) e way.1 in
+      and_from (has_owners_way policy && owns me head.owner) (is_within (mask_bits mask) acl_bits)
+      (and_from (has_owners_way policy) (owns me head.owner) way.0 mine) within
 
   for-more : (object : ℕ) (mask : Mask) → needs_list_alone asked object ≡ false → Goes object mask
   for-more object mask more head e goes =

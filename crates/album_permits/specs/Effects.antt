@@ -29,10 +29,11 @@ Write = ℕ × Value
 
 -- ---- parts of the table
 
--- the name of a user; Anonymous makes no object
+-- the name of a user, or of root; Anonymous makes no object
 abbrev pub name_of : Principal → List ℕ
 name_of principal.Anonymous = []
 name_of (principal.User name) = name
+name_of (principal.Root name) = name
 
 -- the head group of an item
 abbrev pub head_group_seen : (ℕ → Value) → ℕ → ℕ

@@ -191,7 +191,7 @@ fn new_head(
     ensures memory { IsOkUnless result Refusal.OutOfMemory }
 {
     match principal {
-        Principal::User(name) => Ok(Head {
+        Principal::User(name) | Principal::Root(name) => Ok(Head {
             owner: name.copy()?,
             group: head_group_seen(lookup, into),
             list: stamp.value(),

@@ -20,7 +20,7 @@ use Rattle.album_wire.specs.EventLine.{deliveries}
 use Rattle.album_lines.specs.Output.{refusal_line}
 use Rattle.album_lines.specs.Lines.{Line}
 use Rattle.album_wire.specs.declared.event_shape.Spelled.{Spelled}
-use Rattle.album_replay.specs.Replay.{Happens, Delivers, Spells, Runs, IsPrinted, event_line_read, outputs_text, event_text, delivery_text, text_in, delivered, Showing}
+use Rattle.album_replay.specs.Replay.{Happens, Delivers, Spells, Runs, IsPrinted, outputs_text, event_text, delivery_text, text_in, delivered, Showing}
 use Rattle.album_replay.specs.Epochs.{Leads, MayLead, with_past}
 use Rattle.album_judge.specs.declared.fault.Fault.{Fault}
 use Rattle.album_judge.specs.Writes.{Writes, IsPrefixOf, LeavesOf}
@@ -372,50 +372,50 @@ range_so_far terms how first number last high low old mid a b so_far past =
 
 -- ---- a line
 
-line_goes : (terms : Terms) (how : Showing) (line : Line) (events : Spelled) (world next : World) (text : List ℕ)
-    → event_line_read line ≡ Ok events
+line_goes : (terms : Terms) (how : Showing) (read : Result Spelled Refusal) (events : Spelled) (world next : World) (text : List ℕ)
+    → read ≡ Ok events
     → Spells terms how world events next text
-    → IsPrinted terms how line world next text
-line_goes terms how line events world next text is h =
-    inl (subst (λ read. Runs terms how world read next text) (sym is) h)
+    → IsPrinted terms how read world next text
+line_goes terms how read events world next text is h =
+    inl (subst (λ r. Runs terms how world r next text) (sym is) h)
 
 -- the outputs of the events that it spells are written
-pub line_done : (terms : Terms) (how : Showing) (line : Line) (events : Spelled) (old new : WorldState) (past : Past)
-    → event_line_read line ≡ Ok events
+pub line_done : (terms : Terms) (how : Showing) (read : Result Spelled Refusal) (events : Spelled) (old new : WorldState) (past : Past)
+    → read ≡ Ok events
     → (a b : Option (List ℕ))
     → Writes (Leads (λ before next text. Spells terms how before events next text) old new past) a b
-    → Writes (Leads (IsPrinted terms how line) old new past) a b
-line_done terms how line events old new past is a b w =
-    (w.0, (w.1.0, line_goes terms how line events (with_past old past) (with_past new w.1.0) w.0 is w.1.1), w.2)
+    → Writes (Leads (IsPrinted terms how read) old new past) a b
+line_done terms how read events old new past is a b w =
+    (w.0, (w.1.0, line_goes terms how read events (with_past old past) (with_past new w.1.0) w.0 is w.1.1), w.2)
 
-pub line_left : (terms : Terms) (how : Showing) (line : Line) (events : Spelled) (old : WorldState) (past : Past)
-    → event_line_read line ≡ Ok events
+pub line_left : (terms : Terms) (how : Showing) (read : Result Spelled Refusal) (events : Spelled) (old : WorldState) (past : Past)
+    → read ≡ Ok events
     → (fault : Fault) (a b : Option (List ℕ))
     → Writes (LeavesOf fault (MayLead (λ before next text. Spells terms how before events next text) old past)) a b
-    → Writes (LeavesOf fault (MayLead (IsPrinted terms how line) old past)) a b
-line_left terms how line events old past is fault a b w =
+    → Writes (LeavesOf fault (MayLead (IsPrinted terms how read) old past)) a b
+line_left terms how read events old past is fault a b w =
     writes_left (MayLead (λ before next text. Spells terms how before events next text) old past)
-    (MayLead (IsPrinted terms how line) old past)
-    (λ text h. (h.0, line_goes terms how line events (with_past old past) h.0 text is h.1)) fault a b w
+    (MayLead (IsPrinted terms how read) old past)
+    (λ text h. (h.0, line_goes terms how read events (with_past old past) h.0 text is h.1)) fault a b w
 
 -- it is refused
-pub line_refused : (terms : Terms) (how : Showing) (line : Line) (e : Refusal) (world : WorldState) (past : Past)
-    → (e ≢ OutOfMemory → event_line_read line ≡ Err e)
-    → Leads (IsPrinted terms how line) world world past (refusal_line e)
-line_refused terms how line e world past why = go (memory_or_not e)
+pub line_refused : (terms : Terms) (how : Showing) (read : Result Spelled Refusal) (e : Refusal) (world : WorldState) (past : Past)
+    → (e ≢ OutOfMemory → read ≡ Err e)
+    → Leads (IsPrinted terms how read) world world past (refusal_line e)
+line_refused terms how read e world past why = go (memory_or_not e)
   where
-    go : (e ≡ OutOfMemory) ⊎ (e ≢ OutOfMemory) → Leads (IsPrinted terms how line) world world past (refusal_line e)
+    go : (e ≡ OutOfMemory) ⊎ (e ≢ OutOfMemory) → Leads (IsPrinted terms how read) world world past (refusal_line e)
     go (inl is) = (past, inr (refl, ap refusal_line is))
     go (inr is) =
-        (past, inl (subst (λ read. Runs terms how (with_past world past) read (with_past world past) (refusal_line e)) (sym (why is)) (refl, refl)))
+        (past, inl (subst (λ r. Runs terms how (with_past world past) r (with_past world past) (refusal_line e)) (sym (why is)) (refl, refl)))
 
-pub line_written : (terms : Terms) (how : Showing) (line : Line) (world : WorldState) (past : Past) (whole : List ℕ)
-    → Leads (IsPrinted terms how line) world world past whole
-    → (a b : Option (List ℕ)) → Appends a b whole → Writes (Leads (IsPrinted terms how line) world world past) a b
-line_written terms how line world = leads_writes (IsPrinted terms how line) world world
+pub line_written : (terms : Terms) (how : Showing) (read : Result Spelled Refusal) (world : WorldState) (past : Past) (whole : List ℕ)
+    → Leads (IsPrinted terms how read) world world past whole
+    → (a b : Option (List ℕ)) → Appends a b whole → Writes (Leads (IsPrinted terms how read) world world past) a b
+line_written terms how read world = leads_writes (IsPrinted terms how read) world world
 
-pub line_begun : (terms : Terms) (how : Showing) (line : Line) (world : WorldState) (past : Past) (whole : List ℕ)
-    → Leads (IsPrinted terms how line) world world past whole
+pub line_begun : (terms : Terms) (how : Showing) (read : Result Spelled Refusal) (world : WorldState) (past : Past) (whole : List ℕ)
+    → Leads (IsPrinted terms how read) world world past whole
     → (fault : Fault) (a b : Option (List ℕ)) → Writes (LeavesOf fault (λ text. text ≡ whole)) a b
-    → Writes (LeavesOf fault (MayLead (IsPrinted terms how line) world past)) a b
-line_begun terms how line world = leads_left (IsPrinted terms how line) world world
+    → Writes (LeavesOf fault (MayLead (IsPrinted terms how read) world past)) a b
+line_begun terms how read world = leads_left (IsPrinted terms how read) world world

@@ -37,7 +37,7 @@ use Rattle.album_wire.specs.declared.opening_line.OpeningLine.{OpeningLine}
 use Rattle.album_wire.specs.declared.opening_line.OpeningLine.TheVariants as line
 use Rattle.album_wire.specs.declared.opening_shape.Header.{Header}
 use Rattle.album_wire.specs.FirstValues.{ValuesSaid, no_values, with_value, opening_of}
-use Rattle.album_replay.specs.Replay.{Epoch, epoch_after, Stage, Unopened, BeingOpened, Running, Over, Step, refused, silently, first_line, later_line, opened_by, message_shown, event_text, delivery_text, Happens, Delivers, Runs, opening_line_read, event_line_read, IsOpened, IsPrinted, IsRun, IsRestart, Takes, IsStep, Replays, IsReplay, end_text, Showing, showing, showing_of}
+use Rattle.album_replay.specs.Replay.{Epoch, epoch_after, Stage, Unopened, BeingOpened, Running, Over, Step, refused, silently, first_line, later_line, opened_by, message_shown, event_text, delivery_text, Happens, Delivers, Runs, opening_line_read, event_line_read, read_in, IsOpened, IsPrinted, IsRun, IsRestart, Takes, IsStep, Replays, IsReplay, end_text, Showing, showing, showing_of}
 use Rattle.album_replay.specs.Promise.{IsCarriedOver, Opens, opening_said, ItemSaid, item_said, with_items, events_read, events_spelled, AreAmong, Spell, IsSpelledBy, AllHold, IsOf, Printed, Refused, Restarted, Output, text_of, IsRight, IsAsPromised}
 use Rattle.album_replay.specs.Promise.AreAmong.{nothing, taken, left}
 use Rattle.album_replay.specs.Promise.Opens.{First, Next}
@@ -133,7 +133,7 @@ opens_base _ _ _ (Next lines others line number o n es opens among said over) =
 module _ (input lines later first others : List Line) (before : input ≡ lines ++ later) (split : lines ≡ first ++ others)
     (number : ℕ) (o : Opening) (opens : Opens first number o) where
   -- the outputs of the event are of the world after it
-  event_parts : (es all : List Event) (e : Event) (trace : Bool) → AreAmong (es ++ e ∷ []) (events_spelled others)
+  event_parts : (es all : List Event) (e : Event) (trace : Bool) → AreAmong (es ++ e ∷ []) (events_spelled o.root others)
       → (ch : Change) → change_of (terms_of o) (run_of o es).now e ≡ Ok ch
       → Parts input (flat_map (λ output. out_line (out_shown o.stamps output)
       (message_shown trace (now_after (run_of o es).now ch) output)) (outs_of (run_of o es).now ch))
@@ -172,7 +172,7 @@ module _ (input lines later first others : List Line) (before : input ≡ lines 
       (message_shown trace (now_after now ch) output)) (outs_of now ch))
       (refuses : (trace : Bool) (now : Now) (r : Refusal) → Parts input (text_by (showing trace o.stamps) now (Err r))) where
     happens_parts : (es all rest : List Event) (e : Event) (trace : Bool) → AreAmong es all
-        → events_spelled others ≡ (all ++ e ∷ []) ++ rest → (next : World) (text : List ℕ)
+        → events_spelled o.root others ≡ (all ++ e ∷ []) ++ rest → (next : World) (text : List ℕ)
         → Happens text_by (terms_of o) (showing trace o.stamps) (run_of o es) e next text → Goes es (all ++ e ∷ []) next text
     happens_parts es all rest e trace among here next text (inl h) = record {
       some = es ++ e ∷ [];
@@ -196,7 +196,7 @@ module _ (input lines later first others : List Line) (before : input ≡ lines 
     }
 
   delivers_parts : (events es all : List Event) (trace : Bool) → AreAmong es all
-      → events_spelled others ≡ all ++ events → (next : World) (text : List ℕ)
+      → events_spelled o.root others ≡ all ++ events → (next : World) (text : List ℕ)
       → Delivers (terms_of o) (showing trace o.stamps) (run_of o es) events next text → Goes es (all ++ events) next text
   delivers_parts [] es all trace among here next text h = record {
     some = es;
@@ -205,7 +205,7 @@ module _ (input lines later first others : List Line) (before : input ≡ lines 
     parts = subst (Parts input) (sym h.1) (no_parts input);
   }
   delivers_parts (e ∷ events) es all trace among here next text h =
-      let at : events_spelled others ≡ (all ++ e ∷ []) ++ events = here ∙ sym (append_assoc all (e ∷ []) events) in
+      let at : events_spelled o.root others ≡ (all ++ e ∷ []) ++ events = here ∙ sym (append_assoc all (e ∷ []) events) in
       let one = happens_parts delivery_text (λ t n ch. refl) (λ t n r. no_parts input) es all events e trace among at h.0 h.1 h.3 in
       let more = delivers_parts events one.some (all ++ e ∷ []) trace one.among at next h.2
       (subst (λ (z : World). Delivers (terms_of o) (showing trace o.stamps) z events next h.2) one.now h.4) in
@@ -231,15 +231,15 @@ said_more lines l b e =
     go true e = rw e refl
     go false e = rw e refl
 
-abbrev events_on : Bool → Line → List Event
-events_on b l = if b then [] else events_read (event_line_read l)
+abbrev events_on : Option (List ℕ) → Bool → Line → List Event
+events_on root b l = if b then [] else events_read (event_line_read root l)
 
-spelled_more : (lines : List Line) (l : Line) (b : Bool) → is_blank l ≡ b
-    → events_spelled (lines ++ l ∷ []) ≡ events_spelled lines ++ events_on b l
-spelled_more lines l b e =
-    flat_map-append (λ (k : Line). if is_blank k then [] else events_read (event_line_read k)) lines (l ∷ [])
-    ∙ ap (λ (z : List Event). events_spelled lines ++ z)
-    (append-nil (if is_blank l then [] else events_read (event_line_read l)) ∙ ap (λ (f : Bool). events_on f l) e)
+spelled_more : (root : Option (List ℕ)) (lines : List Line) (l : Line) (b : Bool) → is_blank l ≡ b
+    → events_spelled root (lines ++ l ∷ []) ≡ events_spelled root lines ++ events_on root b l
+spelled_more root lines l b e =
+    flat_map-append (λ (k : Line). if is_blank k then [] else events_read (event_line_read root k)) lines (l ∷ [])
+    ∙ ap (λ (z : List Event). events_spelled root lines ++ z)
+    (append-nil (if is_blank l then [] else events_read (event_line_read root l)) ∙ ap (λ (f : Bool). events_on root f l) e)
 
 -- one more item
 with_more : (values : ValuesSaid) (items : List ItemSaid) (one : ItemSaid)
@@ -302,8 +302,8 @@ module _ (input done : List Line) (l : Line) (later : List Line) (before : input
           others = s.others ++ l ∷ [];
           split = ap (λ (z : List Line). z ++ l ∷ []) s.split ∙ append_assoc s.first s.others (l ∷ []);
           opens = s.opens;
-          among = subst (AreAmong h.events) (sym (spelled_more s.others l true e))
-              (among_more h.events (events_spelled s.others) [] s.among);
+          among = subst (AreAmong h.events) (sym (spelled_more epoch.opening.root s.others l true e))
+              (among_more h.events (events_spelled epoch.opening.root s.others) [] s.among);
         };
         now = h.now;
       }
@@ -396,9 +396,9 @@ module _ (input done : List Line) (l : Line) (later : List Line) (before : input
 
       -- the stage once some of the line's events have happened
       stands_now : (line_events : List Event)
-          → events_spelled others_now ≡ events_spelled s.others ++ line_events → (next : World) (text : List ℕ)
+          → events_spelled o.root others_now ≡ events_spelled epoch.opening.root s.others ++ line_events → (next : World) (text : List ℕ)
           → Goes input now_done later s.first others_now before split_now epoch.number o s.opens es
-          (events_spelled s.others ++ line_events) next text
+          (events_spelled epoch.opening.root s.others ++ line_events) next text
           → RunsIt now_done epoch next
       stands_now line_events here next text g = record {
         events = g.some;
@@ -421,8 +421,8 @@ module _ (input done : List Line) (l : Line) (later : List Line) (before : input
           others = others_now;
           split = split_now;
           opens = s.opens;
-          among = subst (AreAmong es) (sym (spelled_more s.others l false dark))
-              (among_more es (events_spelled s.others) (events_read (event_line_read l)) s.among);
+          among = subst (AreAmong es) (sym (spelled_more epoch.opening.root s.others l false dark))
+              (among_more es (events_spelled epoch.opening.root s.others) (events_read (event_line_read epoch.opening.root l)) s.among);
         };
         now = same;
       }
@@ -431,20 +431,20 @@ module _ (input done : List Line) (l : Line) (later : List Line) (before : input
         pub stands : RunsIt now_done epoch next
         pub parts : Parts input text
 
-      runs_on : (r : Result Spelled Refusal) → event_line_read l ≡ r → (next : World) (text : List ℕ)
+      runs_on : (r : Result Spelled Refusal) → event_line_read epoch.opening.root l ≡ r → (next : World) (text : List ℕ)
           → Runs (terms_of o) (showing epoch.trace o.stamps) (run_of o es) r next text → IsRunOn next text
       runs_on (Ok (spelled.One e)) read next text h =
-          let here : events_spelled others_now ≡ events_spelled s.others ++ e ∷ [] =
-          spelled_more s.others l false dark ∙ ap (λ (z : Result Spelled Refusal). events_spelled s.others ++ events_read z) read in
+          let here : events_spelled o.root others_now ≡ events_spelled epoch.opening.root s.others ++ e ∷ [] =
+          spelled_more epoch.opening.root s.others l false dark ∙ ap (λ (z : Result Spelled Refusal). events_spelled epoch.opening.root s.others ++ events_read z) read in
           let g = happens_parts input now_done later s.first others_now before split_now epoch.number o s.opens event_text
-          (λ t n ch. refl) (λ t n r. refused_part input r) es (events_spelled s.others) [] e epoch.trace s.among
-          (here ∙ sym (append-nil (events_spelled s.others ++ e ∷ []))) next text h in
+          (λ t n ch. refl) (λ t n r. refused_part input r) es (events_spelled epoch.opening.root s.others) [] e epoch.trace s.among
+          (here ∙ sym (append-nil (events_spelled epoch.opening.root s.others ++ e ∷ []))) next text h in
           record { stands = stands_now (e ∷ []) here next text g; parts = g.parts }
       runs_on (Ok (spelled.Range a b)) read next text h =
-          let here : events_spelled others_now ≡ events_spelled s.others ++ deliveries a b =
-          spelled_more s.others l false dark ∙ ap (λ (z : Result Spelled Refusal). events_spelled s.others ++ events_read z) read in
+          let here : events_spelled o.root others_now ≡ events_spelled epoch.opening.root s.others ++ deliveries a b =
+          spelled_more epoch.opening.root s.others l false dark ∙ ap (λ (z : Result Spelled Refusal). events_spelled epoch.opening.root s.others ++ events_read z) read in
           let g = delivers_parts input now_done later s.first others_now before split_now epoch.number o s.opens
-          (deliveries a b) es (events_spelled s.others) epoch.trace s.among here next text h in
+          (deliveries a b) es (events_spelled epoch.opening.root s.others) epoch.trace s.among here next text h in
           record { stands = stands_now (deliveries a b) here next text g; parts = g.parts }
       runs_on (Ok spelled.Restart) read next text h = absurd h
       runs_on (Err r) read next text h = record {
@@ -452,9 +452,9 @@ module _ (input done : List Line) (l : Line) (later : List Line) (before : input
         parts = subst (Parts input) (sym h.1) (refused_part input r);
       }
 
-      printed_on : (next : World) (text : List ℕ) → IsPrinted (terms_of o) (showing epoch.trace o.stamps) l (run_of o es) next text
+      printed_on : (next : World) (text : List ℕ) → IsPrinted (terms_of o) (showing epoch.trace o.stamps) (read_in epoch l) (run_of o es) next text
           → IsRunOn next text
-      printed_on next text (inl h) = runs_on (event_line_read l) refl next text h
+      printed_on next text (inl h) = runs_on (event_line_read epoch.opening.root l) refl next text h
       printed_on next text (inr h) = record {
         stands = still_now next h.0;
         parts = subst (Parts input) (sym h.1) (refused_part input OutOfMemory);
@@ -463,8 +463,8 @@ module _ (input done : List Line) (l : Line) (later : List Line) (before : input
     run_taken : (epoch : Epoch) (world : World) → RunsIt done epoch world → (step : Step)
         → IsRun epoch world l step → IsTaken input now_done step
     run_taken epoch world h step r =
-        let printed : IsPrinted (terms_of epoch.opening) (showing_of epoch) l (run_of epoch.opening h.events) r.world_then step.text =
-        subst (λ (w : World). IsPrinted (terms_of epoch.opening) (showing_of epoch) l w r.world_then step.text) h.now r.printed in
+        let printed : IsPrinted (terms_of epoch.opening) (showing_of epoch) (read_in epoch l) (run_of epoch.opening h.events) r.world_then step.text =
+        subst (λ (w : World). IsPrinted (terms_of epoch.opening) (showing_of epoch) (read_in epoch l) w r.world_then step.text) h.now r.printed in
         let on = printed_on epoch h.events h.spelled r.world_then step.text printed in
         record { stands = subst (StandsBy now_done) (sym r.runs) on.stands; parts = on.parts }
 

@@ -13,7 +13,7 @@ use Rattle.album_lines.specs.Lines.{Line, is_blank, cut, last, ended, begun, lin
 use Rattle.album_wire.specs.EventLine.{deliveries}
 use Rattle.album_wire.specs.declared.event_shape.Spelled.{Spelled}
 use Rattle.album_wire.specs.declared.event_shape.Spelled.TheVariants as spelled
-use Rattle.album_replay.specs.Replay.{Stage, Unopened, BeingOpened, Running, Over, silently, Delivers, Runs, IsStep, Takes, Replays, IsReplay, event_line_read, delivered, line_run, taken, step_of, replayed, end_text, replay_text, Showing, showing_of}
+use Rattle.album_replay.specs.Replay.{Stage, Unopened, BeingOpened, Running, Over, silently, Delivers, Runs, IsStep, Takes, Replays, IsReplay, read_in, delivered, line_run, taken, step_of, replayed, end_text, replay_text, Showing, showing_of}
 use Rattle.album_judge.specs.Writes.{IsPrefixOf}
 use Rattle.album_judge.proofs.Pieces.{lines_split}
 
@@ -41,9 +41,9 @@ takes : (stage : Stage) (line : Line) → Takes stage line (taken stage line)
 takes Unopened line = inl refl
 takes (BeingOpened header values) line = inl refl
 takes (Running epoch world) line = inl (record {
-  world_then = (line_run (terms_of epoch.opening) (showing_of epoch) world (event_line_read line)).0;
+  world_then = (line_run (terms_of epoch.opening) (showing_of epoch) world (read_in epoch line)).0;
   runs = refl;
-  printed = prints (terms_of epoch.opening) (showing_of epoch) world (event_line_read line);
+  printed = prints (terms_of epoch.opening) (showing_of epoch) world (read_in epoch line);
 })
 takes Over line = refl
 

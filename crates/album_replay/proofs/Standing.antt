@@ -27,7 +27,7 @@ use Rattle.album_judge.specs.declared.fault.Fault.TheVariants.{Reading, Writing,
 use Rattle.album_replay.specs.declared.openings.SoFar.{SoFar}
 use Rattle.album_replay.specs.declared.engine.stages.Stage.{Stage as Kept}
 use Rattle.album_replay.specs.declared.engine.stages.Stage.TheVariants as kept
-use Rattle.album_replay.specs.Replay.{Epoch, Spells, event_line_read, Stage, Running, Over, Step, IsStep, IsOpened, IsRun, IsPrinted, Takes, Prints, Replays, begun, opened_by, refused, silently, end_text, replayed, Showing, showing_of}
+use Rattle.album_replay.specs.Replay.{Epoch, Spells, read_in, Stage, Running, Over, Step, IsStep, IsOpened, IsRun, IsPrinted, Takes, Prints, Replays, begun, opened_by, refused, silently, end_text, replayed, Showing, showing_of}
 use Rattle.album_replay.specs.Epochs.{EpochState, HasLed, first_epoch, IsAfter, Restarts, MayRestart, running, TakesLine, PrintsLine, Leads, MayLead, with_past}
 use Rattle.album_replay.specs.Stages.{GoesOn, Opens, Steps, Replayed, Ends, IsLeftAmid, IsLeftAtEnd, is_over, no_past, stage_of, step_by}
 use Rattle.album_judge.specs.Writes.{Writes, IsPrefixOf, IsCutShort, LeavesOf}
@@ -250,30 +250,30 @@ module _ (old : Stage) (line : Line) (says : Step) (opening : (step : Step) → 
 module _ (old : EpochState) (past : Past) (line : Line) where
   module _ (led : HasLed old.of.opening old.world) where
     -- its events run
-    goes_on_running : (next : World) (text : List ℕ) → IsPrinted old.world.terms (showing_of old.of) line (with_past old.world past) next text
+    goes_on_running : (next : World) (text : List ℕ) → IsPrinted old.world.terms (showing_of old.of) (read_in old.of line) (with_past old.world past) next text
         → IsRun old.of (with_past old.world past) line (step_from (Running old.of next) text)
     goes_on_running next text printed = record {
       world_then = next;
       runs = refl;
-      printed = subst (λ (t : Terms). IsPrinted t (showing_of old.of) line (with_past old.world past) next text) led.1.terms printed;
+      printed = subst (λ (t : Terms). IsPrinted t (showing_of old.of) (read_in old.of line) (with_past old.world past) next text) led.1.terms printed;
     }
 
     pub events_taken : (new : WorldState) (a b : Option (List ℕ))
-        → Writes (Leads (IsPrinted old.world.terms (showing_of old.of) line) old.world new past) a b
+        → Writes (Leads (IsPrinted old.world.terms (showing_of old.of) (read_in old.of line)) old.world new past) a b
         → Writes (TakesLine old past line (record { of = old.of; world = new })) a b
     events_taken new a b w =
         (w.0, (w.1.0, inl (goes_on_running (with_past new w.1.0) w.0 w.1.1)), w.2)
 
     pub events_left : (fault : Fault) (a b : Option (List ℕ))
-        → Writes (LeavesOf fault (MayLead (IsPrinted old.world.terms (showing_of old.of) line) old.world past)) a b
+        → Writes (LeavesOf fault (MayLead (IsPrinted old.world.terms (showing_of old.of) (read_in old.of line)) old.world past)) a b
         → Writes (LeavesOf fault (PrintsLine old past line)) a b
     events_left fault a b w =
-        writes_left (MayLead (IsPrinted old.world.terms (showing_of old.of) line) old.world past) (PrintsLine old past line)
+        writes_left (MayLead (IsPrinted old.world.terms (showing_of old.of) (read_in old.of line)) old.world past) (PrintsLine old past line)
         (λ text h. (Running old.of h.0, inl (goes_on_running h.0 text h.1)))
         fault a b w
 
   -- it is a restart, and the next epoch opens
-  module _ (said : event_line_read line ≡ Ok spelled.Restart) where
+  module _ (said : read_in old.of line ≡ Ok spelled.Restart) where
     restarts : (new : EpochState) → IsAfter old new
         → Takes (running old past) line (step_from (running new no_past) (talk_text (talk.Restarted new.of.number)))
     restarts new h = inr (record {
@@ -398,33 +398,33 @@ module _ (old seen : EpochState) (same : old ≡ seen) (led : HasLed old.of.open
   abbrev Left : Fault → Option (List ℕ) → Option (List ℕ) → Type 0
   Left fault a b = Writes (LeavesOf fault (PrintsLine seen past line)) a b
 
-  pub spelled_taken : (events : Spelled) → event_line_read line ≡ Ok events → (new : WorldState) (a b : Option (List ℕ))
+  pub spelled_taken : (events : Spelled) → read_in old.of line ≡ Ok events → (new : WorldState) (a b : Option (List ℕ))
       → Writes (Leads (λ before next text. Spells terms how before events next text) old.world new past) a b
       → Taken (record { of = old.of; world = new }) a b
   spelled_taken events is new a b w =
       subst (λ (z : EpochState). Writes (TakesLine z past line (record { of = old.of; world = new })) a b) same
-      (events_taken old past line led new a b (line_done terms how line events old.world new past is a b w))
+      (events_taken old past line led new a b (line_done terms how (read_in old.of line) events old.world new past is a b w))
 
-  pub spelled_left : (events : Spelled) → event_line_read line ≡ Ok events → (fault : Fault) (a b : Option (List ℕ))
+  pub spelled_left : (events : Spelled) → read_in old.of line ≡ Ok events → (fault : Fault) (a b : Option (List ℕ))
       → Writes (LeavesOf fault (MayLead (λ before next text. Spells terms how before events next text) old.world past)) a b
       → Left fault a b
   spelled_left events is fault a b w =
       subst (λ (z : EpochState). Writes (LeavesOf fault (PrintsLine z past line)) a b) same
-      (events_left old past line led fault a b (line_left terms how line events old.world past is fault a b w))
+      (events_left old past line led fault a b (line_left terms how (read_in old.of line) events old.world past is fault a b w))
 
-  pub refusal_taken : (e : Refusal) → (e ≢ OutOfMemory → event_line_read line ≡ Err e) → (a b : Option (List ℕ))
+  pub refusal_taken : (e : Refusal) → (e ≢ OutOfMemory → read_in old.of line ≡ Err e) → (a b : Option (List ℕ))
       → Appends a b (refusal_line e) → Taken old a b
   refusal_taken e why a b w =
       subst (λ (z : EpochState). Writes (TakesLine z past line old) a b) same
       (events_taken old past line led old.world a b
-      (line_written terms how line old.world past (refusal_line e) (line_refused terms how line e old.world past why) a b w))
+      (line_written terms how (read_in old.of line) old.world past (refusal_line e) (line_refused terms how (read_in old.of line) e old.world past why) a b w))
 
-  pub refusal_left : (e : Refusal) → (e ≢ OutOfMemory → event_line_read line ≡ Err e) → (fault : Fault) (a b : Option (List ℕ))
+  pub refusal_left : (e : Refusal) → (e ≢ OutOfMemory → read_in old.of line ≡ Err e) → (fault : Fault) (a b : Option (List ℕ))
       → Writes (LeavesOf fault (λ text. text ≡ refusal_line e)) a b → Left fault a b
   refusal_left e why fault a b w =
       subst (λ (z : EpochState). Writes (LeavesOf fault (PrintsLine z past line)) a b) same
       (events_left old past line led fault a b
-      (line_begun terms how line old.world past (refusal_line e) (line_refused terms how line e old.world past why) fault a b w))
+      (line_begun terms how (read_in old.of line) old.world past (refusal_line e) (line_refused terms how (read_in old.of line) e old.world past why) fault a b w))
 
 -- a line that isn't blank
 module _ (old : EpochState) (past : Past) (line : Line) (is : is_blank line ≡ false) where

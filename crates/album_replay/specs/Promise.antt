@@ -1,6 +1,7 @@
 -- What is promised of all that `replay` prints.
 --
--- The first lines of an input spell an opening, and the others events, up to a restart. Then the next epoch opens on
+-- The first lines of an input spell an opening, and the others events, up to a restart. Who asks in one is root where
+-- the opening names it so. After a restart the next epoch opens on
 -- what the world leaves, and the lines after the restart are its events. Whatever is printed is a refusal, or that the
 -- next epoch has opened, or it is an output of the world that opened so, once events of the lines before it, in their
 -- order, have happened there. (An event that memory ran out on, or on whose line it did, is left out, and so are those
@@ -82,9 +83,10 @@ events_read (Ok (spelled.Range first last)) = deliveries first last
 events_read (Ok spelled.Restart) = []
 events_read (Err refusal) = []
 
--- the events that lines spell, one line after another
-abbrev pub events_spelled : List Line → List Event
-events_spelled lines = flat_map (λ line. if is_blank line then [] else events_read (event_line_read line)) lines
+-- the events that lines spell, one line after another, each by the principal that acts where this user is root
+abbrev pub events_spelled : Option (List ℕ) → List Line → List Event
+events_spelled root lines =
+    flat_map (λ line. if is_blank line then [] else events_read (event_line_read root line)) lines
 
 -- some of these events, in their order
 pub data AreAmong : List Event → List Event → Type 0 where
@@ -104,8 +106,8 @@ pub data Opens : List Line → ℕ → Opening → Type 0 where
   First : (lines : List Line) (opening : Opening) → SpellsOpening lines opening → Opens lines 1 opening
   Next :
       (lines others : List Line) (line : Line) (number : ℕ) (opening next : Opening) (events : List Event)
-      → Opens lines number opening → AreAmong events (events_spelled others)
-      → event_line_read line ≡ Ok spelled.Restart → IsCarriedOver opening events next
+      → Opens lines number opening → AreAmong events (events_spelled opening.root others)
+      → event_line_read opening.root line ≡ Ok spelled.Restart → IsCarriedOver opening events next
       → Opens (lines ++ others ++ line ∷ []) (number + 1) next
 
 -- the first of the lines led to the epoch, and these are events of the others
@@ -114,7 +116,7 @@ pub record Spell (lines : List Line) (number : ℕ) (opening : Opening) (events 
   pub others : List Line
   pub split : lines ≡ first ++ others
   pub opens : Opens first number opening
-  pub among : AreAmong events (events_spelled others)
+  pub among : AreAmong events (events_spelled opening.root others)
 
 -- the world is the run of the epoch's opening and of these events
 pub record IsSpelledBy (lines : List Line) (epoch : Epoch) (world : World) : Type 0 where

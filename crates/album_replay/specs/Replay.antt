@@ -3,6 +3,8 @@ use Rattle.std.specs.Prelude.{◌≡◌, ◌≢◌, ◌⊎◌, ◌+◌, List, []
 use Rattle.std.specs.List.{flat_map}
 use Rattle.album_stamps.specs.declared.refusals.Refusal.{Refusal}
 use Rattle.album_stamps.specs.declared.refusals.Refusal.TheVariants.{OutOfMemory, BadLine, BadRequest, BadOpening}
+use Rattle.album_stamps.specs.Outcome.{◌>>=◌}
+use Rattle.album_eval.specs.Matching.{acting}
 use Rattle.album_items.specs.FirstStamps.{Stamps}
 use Rattle.album_items.specs.Openings.{is_opening}
 use Rattle.album_items.specs.declared.openings.Opening.{Opening}
@@ -13,6 +15,7 @@ use Rattle.album_world.specs.Past.{World}
 use Rattle.album_world.specs.Changes.{Change, change_of}
 use Rattle.album_world.specs.Runs.{now_after, outs_of, happens, start}
 use Rattle.album_permits.specs.declared.events.Event.{Event}
+use Rattle.album_permits.specs.declared.events.Event.TheVariants as event
 use Rattle.album_permits.specs.declared.outs.Out.{Out}
 use Rattle.album_permits.specs.declared.outs.Out.TheVariants as out
 use Rattle.album_lines.specs.Lines.{Line, is_blank, ended, lines_of}
@@ -160,25 +163,43 @@ abbrev pub opening_line_read : Line → Result OpeningLine Refusal
 opening_line_read None = Err BadLine
 opening_line_read (Some bytes) = opening_line_of bytes
 
-abbrev pub event_line_read : Line → Result Spelled Refusal
-event_line_read None = Err BadLine
-event_line_read (Some bytes) = event_line_of bytes
+-- an event, by the principal that acts where this user is root, or nobody is
+abbrev pub acting_event : Option (List ℕ) → Event → Event
+acting_event root (event.Ask client who ask) = event.Ask client (acting root who) ask
+acting_event root (event.Deliver number) = event.Deliver number
+acting_event root (event.Sweep part stamp) = event.Sweep part stamp
+acting_event root (event.Stop client) = event.Stop client
+acting_event root (event.Trim part item) = event.Trim part item
+
+abbrev pub acting_events : Option (List ℕ) → Spelled → Spelled
+acting_events root (spelled.One event) = spelled.One (acting_event root event)
+acting_events root (spelled.Range first last) = spelled.Range first last
+acting_events root spelled.Restart = spelled.Restart
+
+-- the events of a line, each by the principal that acts
+abbrev pub event_line_read : Option (List ℕ) → Line → Result Spelled Refusal
+event_line_read root None = Err BadLine
+event_line_read root (Some bytes) = event_line_of bytes >>= λ events. Ok (acting_events root events)
 
 -- a step of the opening is what its line says, unless memory runs out on that
 abbrev pub IsOpened : Step → Step → Type 0
 IsOpened says step = (step ≡ says) ⊎ (step ≡ refused OutOfMemory)
 
 -- the line's events run, unless memory runs out on the line
-abbrev pub IsPrinted : Terms → Showing → Line → World → World → List ℕ → Type 0
-IsPrinted terms how line world next text =
-    Runs terms how world (event_line_read line) next text
+abbrev pub IsPrinted : Terms → Showing → Result Spelled Refusal → World → World → List ℕ → Type 0
+IsPrinted terms how read world next text =
+    Runs terms how world read next text
     ⊎ ((next ≡ world) × (text ≡ refusal_line OutOfMemory))
+
+-- the events of a line in an epoch
+abbrev pub read_in : Epoch → Line → Result Spelled Refusal
+read_in epoch line = event_line_read epoch.opening.root line
 
 -- a step of the run
 pub record IsRun (epoch : Epoch) (world : World) (line : Line) (step : Step) : Type 0 where
   pub world_then : World
   pub runs : step.next ≡ Running epoch world_then
-  pub printed : IsPrinted (terms_of epoch.opening) (showing_of epoch) line world world_then step.text
+  pub printed : IsPrinted (terms_of epoch.opening) (showing_of epoch) (read_in epoch line) world world_then step.text
 
 -- the epoch that opens on this, after another one
 abbrev pub epoch_after : Epoch → Opening → Epoch
@@ -186,7 +207,7 @@ epoch_after epoch next = record { opening = next; number = epoch.number + 1; tra
 
 -- The line is a restart: all clients and messages are gone, and the next epoch opens on what the world leaves.
 pub record IsRestart (epoch : Epoch) (world : World) (line : Line) (step : Step) : Type 0 where
-  pub said : event_line_read line ≡ Ok spelled.Restart
+  pub said : read_in epoch line ≡ Ok spelled.Restart
   pub next : Opening
   pub leaves : IsNextOpening epoch.opening world.now next
   pub opens : step.next ≡ Running (epoch_after epoch next) (start next)
@@ -296,7 +317,7 @@ abbrev pub taken : Stage → Line → Step
 taken Unopened line = opened_by first_line (opening_line_read line)
 taken (BeingOpened header values) line = opened_by (later_line header values) (opening_line_read line)
 taken (Running epoch world) line =
-    run_step epoch (line_run (terms_of epoch.opening) (showing_of epoch) world (event_line_read line))
+    run_step epoch (line_run (terms_of epoch.opening) (showing_of epoch) world (read_in epoch line))
 taken Over line = silently Over
 
 abbrev pub step_of : Stage → Line → Step

@@ -4,7 +4,7 @@ ghost use Rattle.album_lines.specs.Lines.{Line, ended};
 ghost use Rattle.album_world.specs.Past.{World};
 ghost use Rattle.album_replay.specs.Promise.{IsAsPromised, IsSpelledBy};
 ghost use Rattle.album_replay.specs.Replay.{Epoch, Stage, Unopened, Running, Over, Replays, IsReplay, replay_text};
-ghost use Rattle.album_replay.specs.WorkedOpening.{owners_all, trip_opened};
+ghost use Rattle.album_replay.specs.WorkedOpening.{owners_all, trip_opened, trip_rooted};
 ghost use Rattle.album_judge.specs.Writes.{IsPrefixOf};
 
 /// A law: each input has a text. It is computed, where memory runs out on each restart and never else.
@@ -82,6 +82,18 @@ pub fn worked_replays()
         ≡ codes "{\"answer\":\"committed\",\"client\":1,\"stamp\":65537}\n"
         ++ codes "{\"answer\":\"served\",\"client\":2,\"content\":\"736561\",\"object\":\"picture/0\","
         ++ codes "\"stamp\":65537,\"title\":\"Bay\"}\n" }
+
+    // What only its owner may do root does, and nobody else.
+    ensures rooted { replay_text
+        (trip_rooted owners_all
+        ++ codes "{\"ask\":{\"do\":\"retitle\",\"object\":\"picture/0\",\"title\":\"Bay\"},\"client\":1,"
+        ++ codes "\"who\":\"eve@users\"}\n"
+        ++ codes "{\"deliver\":[1,20]}\n"
+        ++ codes "{\"ask\":{\"do\":\"retitle\",\"object\":\"picture/0\",\"title\":\"Cove\"},\"client\":2,"
+        ++ codes "\"who\":\"bo@users\"}\n"
+        ++ codes "{\"deliver\":[21,36]}\n")
+        ≡ codes "{\"answer\":\"committed\",\"client\":1,\"stamp\":65537}\n"
+        ++ codes "{\"answer\":\"denied\",\"client\":2,\"reasons\":[[\"picture/0\",256,\"end\"]]}\n" }
 
     ensures anonymous_adds { replay_text
         (trip_opened (codes "false") owners_all

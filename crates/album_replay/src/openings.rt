@@ -29,10 +29,10 @@ pub enum SoFar {
 pub fn first_line(alloc: Global, scratch: &mut Scratch, line: &LineIn) -> Result<SoFar, Refusal>
     ensures { GoesOn (opened_by first_line (opening_line_read (said line.now))) result }
 {
-    match opening_line(alloc, scratch, line)? {
-        OpeningLine::Open(header) => Ok(SoFar::More(header, FirstValues::new(alloc))),
-        OpeningLine::Item(..) | OpeningLine::Begin => Err(Refusal::BadRequest),
-    }
+    let OpeningLine::Open(header) = opening_line(alloc, scratch, line)? else {
+        return Err(Refusal::BadRequest);
+    };
+    Ok(SoFar::More(header, FirstValues::new(alloc)))
 }
 
 /// After it come the items, and then the line that says that these are all.

@@ -107,14 +107,15 @@ stamp_below o n es by is next c =
 
 -- what `next_opening` makes is what the world leaves
 pub next_is : (o : Opening) (w : WorldState) (n : Opening) (highest : ℕ) → n.parts ≡ o.parts → n.limit ≡ o.limit → n.policy ≡ o.policy
-    → n.checked ≡ o.checked → n.first ≡ max o.first highest → highest ≡ highest_counter w.kept.clients
+    → n.checked ≡ o.checked → n.root ≡ o.root → n.first ≡ max o.first highest → highest ≡ highest_counter w.kept.clients
     → AreFolded o.items (histories_of w.kept.partitions) n.items
     → AreFoldedStamps o.stamps o.items (histories_of w.kept.partitions) n.stamps → IsNextOpening o w.kept n
-next_is o w n highest parts limit policy checked first high rows stamps = record {
+next_is o w n highest parts limit policy checked root first high rows stamps = record {
   parts = parts;
   limit = limit;
   policy = policy;
   checked = checked;
+  root = root;
   first = first ∙ ap (max o.first) high;
   rows = rows;
   stamps = stamps;

@@ -14,8 +14,8 @@ use album_world::World;
 use std::alloc::Global;
 
 /// The opening with which the next epoch begins, once all the world's clients and messages are lost. The world opened
-/// on this opening. The counts and the policy stay. Each clock begins above all of the world's clocks, and the rows and
-/// their stamps are its histories, folded.
+/// on this opening. The counts, the policy and the root stay. Each clock begins above all of the world's clocks, and the
+/// rows and their stamps are its histories, folded.
 ///
 /// # Errors
 ///
@@ -26,12 +26,14 @@ pub fn next_opening(alloc: Global, world: &World, opening: &Opening) -> Result<O
     ensures base { IfOk result (λ next. is_base_opening next ≡ true) }
     ensures memory { IsOkUnless result Refusal.OutOfMemory }
 {
+    let root = opening.root.clone()?;
     let (items, stamps) = next_rows(alloc, world, opening)?;
     Ok(Opening {
         parts: opening.parts,
         limit: opening.limit,
         policy: opening.policy,
         checked: opening.checked,
+        root,
         first: opening.first.max(world.highest_counter()),
         items,
         stamps,

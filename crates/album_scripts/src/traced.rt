@@ -1,15 +1,18 @@
 //! A script whose header asks for a trace, whatever it says of one. The header is spelled anew from its values, so it
 //! is never longer than a line may be. A first line that is no header stays as it is, and so does its refusal.
 use crate::by_line::ByLine;
-use album_lines::{data, field, member, only, truth, whole};
-use album_stamps::{MAX_LINE, Refusal};
-use json::{Scratch, Writer};
+use album_lines::{data, field, has, member, only, text_under, truth, whole};
+use album_stamps::{MAX_LINE, MAX_NAME, Refusal};
+use json::{Scratch, Value, Writer};
 use std::alloc::{AllocError, Global};
 use std::io;
 use std::io::Read;
 
 /// How many bytes of a line a read may give.
 const PIECE: usize = 4096;
+
+/// How many bytes the text of a user may have: a name, and `@users`.
+const MAX_ROOT: usize = MAX_NAME + 6;
 
 /// A reader of a script, with a trace in its first line that isn't blank.
 #[derive(Drop)]
@@ -106,7 +109,7 @@ fn with_trace(alloc: Global, line: Vec<u8>) -> Result<Vec<u8>, AllocError> {
 ///
 /// # Errors
 ///
-/// `BadLine` or `BadRequest`, where the line is no header: whoever reads it refuses it too. `OutOfMemory`.
+/// `BadLine`, `BadRequest` or `BadWho`, where the line is no header: whoever reads it refuses it too. `OutOfMemory`.
 fn traced_header(alloc: Global, line: &[u8]) -> Result<Vec<u8>, Refusal> {
     let text = line.strip_suffix(b"\n").unwrap_or(line);
     if text.len() > MAX_LINE {
@@ -118,7 +121,9 @@ fn traced_header(alloc: Global, line: &[u8]) -> Result<Vec<u8>, Refusal> {
     let open = field(&value, "open")?;
     only(
         open,
-        &["checked", "first", "limit", "parts", "policy", "trace"],
+        &[
+            "checked", "first", "limit", "parts", "policy", "root", "trace",
+        ],
     )?;
 
     let mut writer = Writer::new(Vec::new(alloc));
@@ -135,6 +140,10 @@ fn traced_header(alloc: Global, line: &[u8]) -> Result<Vec<u8>, Refusal> {
             writer.u64(whole(number)?)?;
         }
     }
+    if has(open, "root") {
+        writer.key("root")?;
+        writer.string(root_of(open)?)?;
+    }
     writer.key("trace")?;
     writer.boolean(true)?;
     writer.end_object()?;
@@ -142,4 +151,13 @@ fn traced_header(alloc: Global, line: &[u8]) -> Result<Vec<u8>, Refusal> {
     let mut header = writer.into_inner();
     header.push(b'\n')?;
     Ok(header)
+}
+
+/// The text of the root that the header names. One that is too long is no user's, and isn't spelled anew.
+fn root_of<'a>(open: &Value<'a>) -> Result<&'a str, Refusal> {
+    let text = text_under(open, "root")?;
+    if text.len() > MAX_ROOT {
+        return Err(Refusal::BadWho);
+    }
+    Ok(text)
 }

@@ -1,6 +1,6 @@
 -- Talks whose answers are recorded before they are written: they join, and so does what is written of one. For
 -- `answer_lines`, `finish` and `talk_on`; `recorded_next` and `recorded_cut` are the ways on of a line.
-use Rattle.std.proofs.Common.{◌≡◌, ◌≢◌, List, [], ◌∷◌, ◌++◌, Option, ℕ, Result, Ok, Err, OnOk, OnErr, refl, sym, ap, ◌∙◌, subst, append_assoc, append-nil}
+use Rattle.std.proofs.Common.{◌≡◌, ◌≢◌, List, [], ◌∷◌, ◌++◌, Option, ℕ, Result, Ok, Err, OnOk, OnErr, sym, ap, ◌∙◌, subst, append_assoc, append-nil}
 use Rattle.std.proofs.KnownBytes.{Appends-nil, Appends-trans}
 use Rattle.std.specs.Io.KnownBytes.{Appends}
 use Rattle.album_eval.specs.declared.policies.Policy.{Policy}

@@ -1,5 +1,5 @@
 -- Who may sweep, trim, dump and ask what is pending over a connection.
-use Rattle.std.specs.Prelude.{◌≡◌, List, map, Bool, true, false, bytes_eq, if◌then◌else◌, Option, Some, Result, Ok, Err}
+use Rattle.std.specs.Prelude.{◌≡◌, ℕ, List, map, Bool, true, false, bytes_eq, if◌then◌else◌, Option, Some, Result, Ok, Err}
 use Rattle.std.specs.List.{list_any}
 use Rattle.album_stamps.specs.declared.refusals.Refusal.{Refusal}
 use Rattle.album_stamps.specs.declared.refusals.Refusal.TheVariants.{NotAdmin}
@@ -15,12 +15,28 @@ abbrev pub AreThese : List (Option Principal) → Admins → Type 0
 AreThese read admins.Anyone = ⊥
 AreThese read (admins.These named) = read ≡ map Some named.items
 
--- the principal is this one
+-- as what a principal is named: a root as the user that it is
+abbrev pub named_as : Principal → Principal
+named_as principal.Anonymous = principal.Anonymous
+named_as (principal.User name) = principal.User name
+named_as (principal.Root name) = principal.User name
+
+-- this one names the user, and it is no root, whom no word names
+abbrev pub names_user : List ℕ → Principal → Bool
+names_user name principal.Anonymous = false
+names_user name (principal.User other) = bytes_eq name other
+names_user name (principal.Root other) = false
+
+abbrev pub names_nobody : Principal → Bool
+names_nobody principal.Anonymous = true
+names_nobody (principal.User name) = false
+names_nobody (principal.Root name) = false
+
+-- the principal is named by this one
 abbrev pub names_principal : Principal → Principal → Bool
-names_principal principal.Anonymous principal.Anonymous = true
-names_principal principal.Anonymous (principal.User name) = false
-names_principal (principal.User name) principal.Anonymous = false
-names_principal (principal.User name) (principal.User other) = bytes_eq name other
+names_principal principal.Anonymous other = names_nobody other
+names_principal (principal.User name) other = names_user name other
+names_principal (principal.Root name) other = names_user name other
 
 -- who talks is one of those who may
 abbrev pub is_admin : Admins → Principal → Bool

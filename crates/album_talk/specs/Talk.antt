@@ -7,6 +7,7 @@ use Rattle.album_items.specs.FirstStamps.{Stamps}
 use Rattle.album_items.specs.declared.openings.Opening.{Opening}
 use Rattle.album_terminate.specs.declared.deciding.StampState.TheVariants as state
 use Rattle.album_partition.specs.Marks.{ArePending, state_of, latest, floor}
+use Rattle.album_eval.specs.Matching.{acting}
 use Rattle.album_eval.specs.declared.facts.Principal.{Principal}
 use Rattle.album_eval.specs.declared.policies.Policy.{Policy}
 use Rattle.album_views.specs.Checks.{refusal_of}
@@ -29,7 +30,7 @@ use Rattle.album_wire.specs.TalkLine.{hello_line_of, talk_line_of}
 use Rattle.album_wire.specs.declared.talk_line.TalkLine.{TalkLine}
 use Rattle.album_wire.specs.declared.talk_line.TalkLine.TheVariants as line
 use Rattle.album_wire.specs.WholeOpening.{text_of_opening}
-use Rattle.album_turns.specs.Left.{IsFoundBy}
+use Rattle.album_turns.specs.Left.{IsFoundBy, IsUnleft}
 use Rattle.album_talk.specs.Admins.{permitted}
 use Rattle.album_talk.specs.declared.admins.Admins.{Admins}
 use Rattle.album_talk.specs.declared.epoch.Epoch.{Epoch}
@@ -48,7 +49,7 @@ rules_of admins epoch = record { admins = admins; epoch = epoch }
 -- an epoch of which nothing is known
 abbrev pub unknown_epoch : Epoch
 unknown_epoch = record {
-  opening = record { parts = 0; limit = 0; policy = 0; checked = false; first = 0; items = []; stamps = [] };
+  opening = record { parts = 0; limit = 0; policy = 0; checked = false; root = None; first = 0; items = []; stamps = [] };
   number = None;
 }
 
@@ -93,9 +94,9 @@ AnswersTrim limit part item old new (Err why) =
     IsNowhere old part why ⊎ (IsUntrimmed limit new.cut part item why ⊎ IsClosedOrOutOfMemory why)
 
 -- of a dump: what would be left to the next epoch, by a session that has first listened to its service
-abbrev pub AnswersDump : Opening → SessionState → Result Opening Refusal → Type 0
-AnswersDump opening old (Ok next) = (listened : Cut) × IsFoundBy old.cut opening listened next
-AnswersDump opening old (Err why) = Unit {0}
+abbrev pub AnswersDump : Opening → SessionState → SessionState → Result Opening Refusal → Type 0
+AnswersDump opening old new (Ok next) = (listened : Cut) × IsFoundBy old.cut opening listened next
+AnswersDump opening old new (Err why) = IsUnleft new.cut opening why
 
 -- ---- the text of an answer, or of a refusal
 
@@ -152,7 +153,7 @@ IsTrimmedFor limit part item old new text =
 abbrev pub IsDumped : Opening → SessionState → SessionState → List ℕ → Type 0
 IsDumped opening old new text =
     (answer : Result Opening Refusal)
-    × AnswersDump opening old answer
+    × AnswersDump opening old new answer
     × (text ≡ dump_text answer)
     × AddsNothing old new
 
@@ -192,11 +193,11 @@ abbrev pub hello_out : Option ℕ → ℕ → TalkOut
 hello_out None client = says.Hello client
 hello_out (Some epoch) client = says.HelloIn client epoch
 
--- the first line says who talks, and is answered so
-abbrev pub Greets : Option ℕ → Talker → Result Principal Refusal → Talker → List ℕ → Type 0
+-- the first line says who talks, and is answered so; the user whom the opening names acts as root
+abbrev pub Greets : Epoch → Talker → Result Principal Refusal → Talker → List ℕ → Type 0
 Greets epoch old (Ok who) new text =
-    (new ≡ record { who = Some who; session = old.session })
-    × (text ≡ talk_text (hello_out epoch old.session.client))
+    (new ≡ record { who = Some (acting epoch.opening.root who); session = old.session })
+    × (text ≡ talk_text (hello_out epoch.number old.session.client))
 Greets epoch old (Err why) new text = (new ≡ old) × (text ≡ refusal_line why)
 
 -- a later line is answered, and the session has seen more
@@ -213,7 +214,7 @@ AnswersLater limit policy epoch who old (Err why) new text = (new ≡ old) × (t
 
 -- until it is said who talks, a line that doesn't say so is refused
 abbrev pub Hears : ℕ → Policy → Rules → Option Principal → Talker → Line → Talker → List ℕ → Type 0
-Hears limit policy rules None old line new text = Greets rules.epoch.number old (hello_line_read line) new text
+Hears limit policy rules None old line new text = Greets rules.epoch old (hello_line_read line) new text
 Hears limit policy rules (Some who) old line new text =
     AnswersLater limit policy rules.epoch who old (talk_line_heard rules.admins who line) new text
 

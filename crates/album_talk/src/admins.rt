@@ -7,9 +7,10 @@ ghost use Rattle.album_eval.specs.Matching.{principal_of};
 ghost use Rattle.album_eval.specs.declared.facts.Principal.{Principal};
 ghost use Rattle.album_wire.specs.declared.talk_line.TalkLine.{TalkLine};
 ghost use Rattle.album_views.specs.declared.asks.Ask.{Ask};
-ghost use Rattle.album_talk.specs.Admins.{AreThese, names_principal, is_admin, permitted};
+ghost use Rattle.album_talk.specs.Admins.{AreThese, named_as, names_principal, names_user, is_admin, permitted};
 
 use album_eval::Principal;
+use album_lists::Name;
 use album_stamps::Refusal;
 use album_wire::TalkLine;
 use std::alloc::Global;
@@ -98,12 +99,19 @@ fn has_principal(named: &Vec<Principal>, who: &Principal) -> bool
 fn names_principal(who: &Principal, admin: &Principal) -> bool
     ensures { result ≡ names_principal who.now admin.now }
 {
-    match (who, admin) {
-        (Principal::Anonymous, Principal::Anonymous) => true,
-        (Principal::User(name), Principal::User(other)) => name.as_str() == other.as_str(),
-        (Principal::Anonymous, Principal::User(_)) | (Principal::User(_), Principal::Anonymous) => {
-            false
-        }
+    match who {
+        Principal::Anonymous => matches!(admin, Principal::Anonymous),
+        Principal::User(name) | Principal::Root(name) => names_user(name, admin),
+    }
+}
+
+/// Whether this one names the user. No word names a root, so a root is named as the user that it is.
+fn names_user(name: &Name, admin: &Principal) -> bool
+    ensures { result ≡ names_user name.now admin.now }
+{
+    match admin {
+        Principal::Anonymous | Principal::Root(_) => false,
+        Principal::User(other) => name.as_str() == other.as_str(),
     }
 }
 
@@ -115,7 +123,7 @@ pub fn only_admins_are_heard()
     ensures named { (admins : Admins) (who : Principal) (line : TalkLine)
         → is_admin admins who ≡ true → permitted admins who line ≡ Ok line }
     ensures these { (named : Vec Principal Global) (who : Principal)
-        → (is_admin (Admins.These named) who ≡ true) ↔ Contains named.items who }
+        → (is_admin (Admins.These named) who ≡ true) ↔ Contains named.items (named_as who) }
     ensures pending { (admins : Admins) (who : Principal) (part : ℕ)
         → is_admin admins who ≡ false → permitted admins who (TalkLine.Pending part) ≡ Err NotAdmin }
     ensures sweeps { (admins : Admins) (who : Principal) (part stamp : ℕ)

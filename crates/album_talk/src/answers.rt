@@ -58,7 +58,7 @@ pub(crate) fn answer<J: ServiceNames, T: Wait + time::Clock>(
     }
 }
 
-/// The answer to the first line, which has to say who talks.
+/// The answer to the first line, which has to say who talks. The user whom the opening names acts as root.
 fn greet<J: ServiceNames>(
     alloc: Global,
     scratch: &mut Scratch,
@@ -67,13 +67,13 @@ fn greet<J: ServiceNames>(
     who: &mut Option<Principal>,
     line: &LineIn,
 ) -> Result<Vec<u8>, Refusal>
-    ensures { IfOk result (λ text. Greets epoch.now.number (record { who = who.old; session = session.now })
+    ensures { IfOk result (λ text. Greets epoch.now (record { who = who.old; session = session.now })
         (hello_line_read (said line.now)) (record { who = who.new; session = session.now }) text.items
         ⊎ ((who.new ≡ who.old) × (text.items ≡ refusal_line OutOfMemory))) }
 {
     match hello_line(alloc, scratch, line) {
         Ok(principal) => {
-            *who = Some(principal);
+            *who = Some(principal.acting(&epoch.opening.root));
             write_talk(alloc, &hello_out(epoch.number, session.client()))
         }
         Err(refusal) => write_refusal(alloc, refusal),

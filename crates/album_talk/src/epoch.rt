@@ -24,6 +24,7 @@ impl Epoch {
             limit: 0,
             policy: 0,
             checked: false,
+            root: None,
             first: 0,
             items: ItemValues::of(Vec::new(alloc)),
             stamps: FirstStamps::new(alloc),

@@ -1,5 +1,6 @@
--- What is written is what is asked, for the laws of `writing`: the lists that are set, and the groups of a share.
-use Rattle.std.proofs.Common.{◌≡◌, ◌<◌, ◌⊎◌, ◌++◌, ℕ, zero, suc, List, [], ◌∷◌, Contains, length, map, inl, inr, refl, sym, ap, subst, arith}
+-- What is written is what is asked, for the laws of `writing`: the lists that are set, the groups of a share, and what
+-- root writes.
+use Rattle.std.proofs.Common.{◌≡◌, ◌<◌, ◌⊎◌, ◌++◌, ℕ, zero, suc, List, [], ◌∷◌, Contains, length, map, inl, inr, refl, sym, ap, subst, ◌∙◌, arith}
 use Rattle.std.specs.List.{flat_map, slice_index_or}
 use Rattle.std.proofs.lemmas.List.{append-nil}
 use Rattle.std.proofs.lemmas.List.Elements.{Contains-append_left, Contains-append_right}
@@ -17,6 +18,8 @@ use Rattle.album_permits.proofs.Sharing.{share-writes}
 use Rattle.album_permits.specs.Changes.{with_members}
 use Rattle.album_permits.specs.Effects.{Write, list_written, members_written, written, merged, effect_of}
 use Rattle.album_permits.specs.Permits.{PermitState}
+use Rattle.album_eval.specs.declared.facts.Principal.{Principal}
+use Rattle.album_eval.specs.declared.facts.Principal.TheVariants as principal
 use Rattle.album_tests_laws.specs.Asked.{IsListAsked, IsMembershipAsked}
 
 -- ---- lists in general
@@ -130,3 +133,30 @@ share-only permit stamp item is lists members asked c =
   where
     IsOne : Write → Type 0
     IsOne w = IsList (seen permit.view.rows) lists w ⊎ IsGroup (seen permit.view.rows) members w
+
+-- ---- root
+
+same-written :
+    (shown : ℕ → Value) (stamp : ℕ) (user : List ℕ) (a : Ask)
+    → written shown (principal.Root user) stamp a ≡ written shown (principal.User user) stamp a
+same-written shown stamp user (ask.Read object) = refl
+same-written shown stamp user (ask.List album) = refl
+same-written shown stamp user (ask.GetList object) = refl
+same-written shown stamp user (ask.AddPicture into title content) = refl
+same-written shown stamp user (ask.AddAlbum into title) = refl
+same-written shown stamp user (ask.Retitle object title) = refl
+same-written shown stamp user (ask.Replace object content) = refl
+same-written shown stamp user (ask.Delete object) = refl
+same-written shown stamp user (ask.Move object to) = refl
+same-written shown stamp user (ask.SetLists lists) = refl
+same-written shown stamp user (ask.SetOwner object owner group) = refl
+same-written shown stamp user (ask.SetMembers object members) = refl
+same-written shown stamp user (ask.Share lists members) = refl
+
+pub root-writes :
+    (permit : PermitState) (stamp : ℕ) (user : List ℕ) → permit.principal ≡ principal.Root user
+    → effect_of permit stamp ≡ effect_of (record permit { principal = principal.User user }) stamp
+root-writes permit stamp user root =
+    let shown = seen permit.view.rows in
+    ap (λ (p : Principal). merged (written shown p stamp permit.view.ask)) root
+    ∙ ap (λ (ws : List Write). merged ws) (same-written shown stamp user permit.view.ask)

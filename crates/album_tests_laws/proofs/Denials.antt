@@ -1,6 +1,6 @@
 -- Where a denial comes from, for the law `denials_name_what_denies`: it has the reasons of one need, none of which is a
 -- grant.
-use Rattle.std.proofs.Common.{◌≡◌, ◌<◌, ℕ, zero, suc, List, [], ◌∷◌, Bool, true, false, Contains, Option, Some, None, length, cond, refl, sym, ap, subst, ◌∙◌, arith, if◌then◌else◌, ◌||◌}
+use Rattle.std.proofs.Common.{◌≡◌, ◌<◌, ℕ, zero, suc, List, [], ◌∷◌, Bool, true, false, Contains, Option, Some, None, length, cond, refl, sym, ap, subst, ◌∙◌, arith, ◌||◌}
 use Rattle.std.specs.List.{cons_option, slice_index_or}
 use Rattle.std.specs.Option.{option_map}
 use Rattle.album_items.specs.Values.{head_of}

@@ -4,7 +4,6 @@ use Rattle.std.specs.Int.RustNames.{bit_and}
 use Rattle.std.specs.List.{list_all}
 use Rattle.std.proofs.lemmas.Bool.{leb-true, eqb-true, ne_eqb}
 use Rattle.album_stamps.specs.declared.limits.TheConstants.{MAX_TRANSACTION_ITEMS}
-use Rattle.album_stamps.specs.declared.refusals.Refusal.{Refusal}
 use Rattle.album_stamps.specs.declared.refusals.Refusal.TheVariants.{BadRequest, TooManyItems, ListFull, BadFlags}
 use Rattle.album_access.specs.Bits.{flag_bits}
 use Rattle.album_lists.specs.Entries.{fits, is_never_inherited}

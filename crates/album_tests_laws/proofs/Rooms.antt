@@ -1,13 +1,13 @@
 -- An album gets no more children than it may have, for the law of `filling`: all that is written is bounded by what was,
 -- but for the album that gets a child, and that has room.
-use Rattle.std.proofs.Common.{◌≡◌, ◌<◌, ◌≤◌, ◌+◌, ◌++◌, ◌==◌, ℕ, List, [], ◌∷◌, Bool, false, not, Contains, length, map, refl, sym, subst, arith}
+use Rattle.std.proofs.Common.{◌≡◌, ◌<◌, ◌≤◌, ◌++◌, ◌==◌, ℕ, List, [], ◌∷◌, false, not, Contains, length, map, refl, sym, subst, arith}
 use Rattle.std.specs.List.{flat_map, count_by}
 use Rattle.std.proofs.lemmas.Bool.{leb-false}
 use Rattle.std.proofs.lemmas.List.{length-append}
 use Rattle.std.proofs.lemmas.List.Sums.{length-filter, count_by-le-length}
 use Rattle.album_lists.specs.declared.whos.Member.{Member}
 use Rattle.album_eval.specs.declared.facts.Principal.{Principal}
-use Rattle.album_items.specs.ItemIds.{picture, album, list, number_of}
+use Rattle.album_items.specs.ItemIds.{picture, album, number_of}
 use Rattle.album_items.specs.Values.{children_of, list_of, home_of}
 use Rattle.album_items.specs.declared.values.Value.{Value}
 use Rattle.album_items.specs.declared.values.Value.TheVariants as value

@@ -30,11 +30,12 @@ pub use judging::{denials_name_what_denies, the_store_judges_as_the_judge_does};
 pub use naming::bits_have_their_names;
 pub use needing::{
     a_deletion_needs_one_of_two_rights, a_share_needs_each_right, an_ask_needs_its_right,
+    owners_are_never_locked_out,
 };
 pub use opening::what_is_drawn_is_named_by_no_opening;
 pub use serving::what_is_served_has_its_stamp;
 pub use writing::{
     a_deletion_is_as_asked, a_move_is_as_asked, additions_are_as_asked, contents_are_as_asked,
-    lists_are_as_asked, members_are_as_asked, owners_are_as_asked, shares_are_as_asked,
-    titles_are_as_asked,
+    lists_are_as_asked, members_are_as_asked, owners_are_as_asked, root_writes_as_the_user,
+    shares_are_as_asked, titles_are_as_asked,
 };

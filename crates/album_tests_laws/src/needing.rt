@@ -1,12 +1,15 @@
-//! Which right an ask needs, and of which object: exactly that one.
-ghost use Rattle.std.specs.Prelude.{◌≡◌, ◌↔◌, ◌&&◌, ◌||◌, ℕ, List, Some, IsTrue};
+//! Which right an ask needs, and of which object: exactly that one. And which rights nobody can take away.
+ghost use Rattle.std.specs.Prelude.{◌≡◌, ◌↔◌, ◌&&◌, ◌||◌, ℕ, List, Some, true, Contains, IsTrue};
 ghost use Rattle.std.specs.List.{list_all};
 ghost use Rattle.album_lists.specs.declared.whos.Member.{Member};
+ghost use Rattle.album_eval.specs.declared.facts.Principal.TheVariants.{Root};
+ghost use Rattle.album_eval.specs.declared.policies.Policy.TheVariants.{Three};
 ghost use Rattle.album_items.specs.ItemIds.{album};
 ghost use Rattle.album_items.specs.Values.{head_of};
 ghost use Rattle.album_items.specs.declared.values.Head.{Head};
 ghost use Rattle.album_items.specs.declared.values.Picture.{Picture};
 ghost use Rattle.album_items.specs.declared.values.Value.TheVariants as value;
+ghost use Rattle.album_views.specs.ReadSets.{is_owned_by};
 ghost use Rattle.album_views.specs.declared.asks.Ask.TheVariants as ask;
 ghost use Rattle.album_views.specs.declared.asks.NewList.{NewList};
 ghost use Rattle.album_views.specs.declared.asks.NewMembership.{NewMembership};
@@ -71,4 +74,19 @@ pub fn a_share_needs_each_right()
         → (ruling_of basis (ask.Share lists members) ≡ Granted)
         ↔ IsTrue (list_all (λ (new : NewList). is_granted_on basis new.object WRITE_ACL) lists
         && list_all (λ (new : NewMembership). is_granted_on basis new.object WRITE_DATA) members) }
+{}
+
+/// A law: by policy 3 whoever has on an object what its owner has reads its list and sets it, whatever the list says and
+/// whatever groups there are. Root has that on each object that is there.
+pub fn owners_are_never_locked_out()
+    ensures entries { (basis : Basis) (object : ℕ)
+        → basis.policy ≡ Three → is_owned_by basis.principal (basis.seen object) ≡ true
+        → ruling_of basis (ask.GetList object) ≡ Granted }
+    ensures lists { (basis : Basis) (lists : List NewList)
+        → basis.policy ≡ Three
+        → ((new : NewList) → Contains lists new → is_owned_by basis.principal (basis.seen new.object) ≡ true)
+        → ruling_of basis (ask.SetLists lists) ≡ Granted }
+    ensures root { (basis : Basis) (object : ℕ) (head : Head) (user : List ℕ)
+        → basis.principal ≡ Root user → head_of (basis.seen object) ≡ Some head
+        → is_owned_by basis.principal (basis.seen object) ≡ true }
 {}

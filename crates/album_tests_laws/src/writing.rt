@@ -99,6 +99,13 @@ pub fn a_move_is_as_asked()
         ∷ [] }
 {}
 
+/// A law: root writes what it would write as a user who isn't root. So what it adds to an album is its own.
+pub fn root_writes_as_the_user()
+    ensures { (permit : PermitState) (stamp : ℕ) (user : List ℕ)
+        → permit.principal ≡ principal.Root user
+        → effect_of permit stamp ≡ effect_of (record permit { principal = principal.User user }) stamp }
+{}
+
 /// A law: what is added to an album is what is asked. It is the principal's, in the album's head group and with a list
 /// of its own, which inherits of the album's. It is the album's last child.
 pub fn additions_are_as_asked()

@@ -56,6 +56,7 @@ fn opened(alloc: Global) -> Result<Opened, Refusal> {
         limit: 1000,
         policy: 1,
         checked: false,
+        root: None,
         first: 0,
         items: ItemValues::of(Vec::new(alloc)),
         stamps: FirstStamps::new(alloc),

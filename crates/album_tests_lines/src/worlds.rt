@@ -52,6 +52,7 @@ fn opened(alloc: Global) -> Result<World, Refusal> {
         limit: 10,
         policy: 2,
         checked: false,
+        root: None,
         first: 0,
         items: items(alloc)?,
         stamps: FirstStamps::new(alloc),

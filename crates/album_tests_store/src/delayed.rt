@@ -63,6 +63,7 @@ fn opening(alloc: Global, checked: bool) -> Result<Opening, Refusal> {
         limit: 1000,
         policy: 1,
         checked,
+        root: None,
         first: 0,
         items: ItemValues::of(items),
         stamps: FirstStamps::new(alloc),

@@ -48,6 +48,7 @@ fn opened(alloc: Global, plain: bool) -> Result<Opened, Refusal> {
         limit: 1000,
         policy: 1,
         checked: false,
+        root: None,
         first: 0,
         items: items(alloc)?,
         stamps: FirstStamps::new(alloc),

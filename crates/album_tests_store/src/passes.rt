@@ -14,6 +14,7 @@ fn opening(alloc: Global) -> Opening {
         limit: 2,
         policy: 1,
         checked: false,
+        root: None,
         first: 0,
         items: ItemValues::of(Vec::new(alloc)),
         stamps: FirstStamps::new(alloc),

@@ -138,6 +138,7 @@ pub fn opening(alloc: Global) -> Result<Opening, Refusal> {
         limit: 1000,
         policy: 1,
         checked: false,
+        root: None,
         first: 0,
         items: items(alloc)?,
         stamps: FirstStamps::new(alloc),

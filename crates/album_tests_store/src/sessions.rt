@@ -53,6 +53,7 @@ fn opening(alloc: Global, entries: &[Entry]) -> Result<Opening, Refusal> {
         limit: 1000,
         policy: 1,
         checked: false,
+        root: None,
         first: 0,
         items: ItemValues::of(items),
         stamps: FirstStamps::new(alloc),

@@ -60,7 +60,7 @@ const STORE: Store = &[
 
 fn is_amy(principal: &Principal) -> bool {
     match principal {
-        Principal::User(name) => name.as_str() == "amy",
+        Principal::User(name) | Principal::Root(name) => name.as_str() == "amy",
         Principal::Anonymous => false,
     }
 }

@@ -3,7 +3,7 @@ use Rattle.std.specs.Prelude.{◌≡◌, ℕ, ◌+◌, List, [], ◌++◌, lengt
 use Rattle.std.specs.Fn.{iterate}
 use Rattle.std.specs.List.{flat_map}
 use Rattle.std.specs.Option.{option_map_or}
-use Rattle.album_eval.specs.Matching.{is_user}
+use Rattle.album_eval.specs.Matching.{owns}
 use Rattle.album_eval.specs.Policies.{has_owners_way}
 use Rattle.album_eval.specs.declared.facts.Principal.{Principal}
 use Rattle.album_eval.specs.declared.policies.Policy.{Policy}
@@ -43,12 +43,12 @@ subjects_of seen ask = objects_of ask ++ relatives_of seen ask
 abbrev pub looker_of : Policy → Principal → Option Principal
 looker_of policy principal = if has_owners_way policy then Some principal else None
 
--- who asks is the owner of what this is
+-- who asks is the owner of what this is, or root
 abbrev pub is_owned_by : Principal → Value → Bool
-is_owned_by principal value = option_map_or (λ (head : Head). is_user principal head.owner) (head_of value) false
+is_owned_by principal value = option_map_or (λ (head : Head). owns principal head.owner) (head_of value) false
 
--- The owner goes the owner's way to this subject: the ask needs of it what an owner is given, and nothing else.
--- So no group is looked at for it.
+-- The owner, or root, goes the owner's way to this subject: the ask needs of it what an owner is given, and nothing
+-- else. So no group is looked at for it.
 abbrev pub is_groupless : (ℕ → Value) → Option Principal → Ask → ℕ → Bool
 is_groupless seen None ask subject = false
 is_groupless seen (Some principal) ask subject = is_owned_by principal (seen subject) && needs_list_alone ask subject

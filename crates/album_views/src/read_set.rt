@@ -210,12 +210,12 @@ fn is_groupless(snapshot: &Snapshot, looker: &Option<Principal>, ask: &Ask, subj
     }
 }
 
-/// Whether the principal is the owner of the item, if it is there.
+/// Whether the principal is the owner of the item, if it is there, or root.
 fn is_owned_by(snapshot: &Snapshot, principal: &Principal, item: ItemId) -> bool
     ensures { result ≡ is_owned_by principal.now (seen snapshot.now item) }
 {
     match head(snapshot, item) {
-        Some(head) => principal.is_user(&head.owner),
+        Some(head) => principal.owns(&head.owner),
         None => false,
     }
 }

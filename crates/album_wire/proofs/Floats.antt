@@ -106,7 +106,11 @@ no_float_in_message number m = go m.body
     go (body.Reply r) = in_reply _ r
 
 pub no_float_in_header : (header : Header) → has_float (opening_json (opening.Open header)) ≡ false
-no_float_in_header header = refl
+no_float_in_header header = go header.root
+  where
+    go : (root : Option (List ℕ)) → has_float (opening_json (opening.Open (record header { root = root }))) ≡ false
+    go None = refl
+    go (Some name) = refl
 
 pub no_float_in_first_value : (item stamp : ℕ) (value : Value)
     → has_float (opening_json (opening.Item item stamp value)) ≡ false

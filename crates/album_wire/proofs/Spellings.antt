@@ -1,6 +1,6 @@
 -- What is written of values is how they are spelled, is one line, and is read back. For `openings_read_back`, by
 -- `opening_in_line` and `opening_back`, and `marks_read_back`, by `mark_in_line` and `mark_back`.
-use Rattle.std.proofs.Common.{◌≡◌, ◌≤◌, ℕ, zero, suc, List, [], ◌∷◌, ◌++◌, All, Bool, true, false, ◌==◌, not, nat_lt, IsTrue, Option, Some, None, Ok, codes, decimal, map, IsUtf8, refl, arith}
+use Rattle.std.proofs.Common.{◌≡◌, ◌≤◌, ℕ, zero, suc, List, [], ◌∷◌, ◌++◌, All, Bool, true, false, ◌==◌, not, nat_lt, IsTrue, Option, Some, None, Ok, codes, decimal, map, IsUtf8, refl, sym, subst, arith}
 use Rattle.std.specs.List.{list_all, AllZip}
 use Rattle.std.specs.Str.{IsAscii}
 use Rattle.std.proofs.lemmas.Bool.{and_parts, ltb-true}
@@ -48,8 +48,8 @@ use Rattle.album_wire.specs.MessageJson.{write_json}
 use Rattle.album_wire.specs.OpeningJson.{header_json, opening_json}
 use Rattle.album_wire.specs.OpeningLine.{opening_line_of}
 use Rattle.album_wire.specs.OpeningShape.{header_keys, item_keys}
-use Rattle.album_wire.specs.OpeningSpelling.{IsHeader, IsOpening}
-use Rattle.album_wire.specs.Spellable.{FitsLine, IsSpellableItem, IsSpellableChild, IsSpellableContent, IsSpellableWho, IsSpellableMember, IsSpellableEntry, IsSpellableHome, IsSpellablePicture, IsSpellableAlbum, IsSpellableList, IsSpellableGroup, IsSpellable, IsSpellableHeader, IsSpellableLine, IsSpellableWritten, IsSpellableWrite, IsSpellableMark}
+use Rattle.album_wire.specs.OpeningSpelling.{IsRoot, IsHeader, IsOpening}
+use Rattle.album_wire.specs.Spellable.{FitsLine, IsSpellableItem, IsSpellableChild, IsSpellableContent, IsSpellableWho, IsSpellableMember, IsSpellableEntry, IsSpellableHome, IsSpellablePicture, IsSpellableAlbum, IsSpellableList, IsSpellableGroup, IsSpellable, IsSpellableRoot, IsSpellableHeader, IsSpellableLine, IsSpellableWritten, IsSpellableWrite, IsSpellableMark}
 use Rattle.album_wire.specs.ValueJson.{owner_text, group_text, who_text, member_text, item_json, entry_json, member_json, home_json, content_json, picture_json, album_json, list_json, group_json, value_json}
 use Rattle.album_wire.specs.declared.mark_line.PreparedMark.{PreparedMark}
 use Rattle.album_wire.specs.declared.opening_line.OpeningLine.{OpeningLine}
@@ -383,13 +383,29 @@ value_sound n (value.Group group) h = group_sound (suc n) group h
 json_back : (d : Data) → IsSound d max_depth → IsJson d (compact_text d)
 json_back d h = record { utf8 = text_utf8 d max_depth h; value = read_back d h }
 
-header_form : (header : Header) → IsHeader header (header_json header)
-header_form header = record {
-  names = names_spelled header_keys (header_json header) true refl;
+-- the JSON of a header with this root
+abbrev json_with : Header → Option (List ℕ) → Data
+json_with header root = header_json (record header { root = root })
+
+form_with : (header : Header) (root : Option (List ℕ)) → header.root ≡ root → IsSpellableRoot root
+    → IsHeader header (json_with header root)
+form_with header None e h = record {
+  names = names_spelled header_keys (json_with header None) true refl;
   parts = refl;
   limit = refl;
   policy = refl;
   checked = refl;
+  root = e;
+  first = refl;
+  trace = refl;
+}
+form_with header (Some name) e h = record {
+  names = names_spelled header_keys (json_with header (Some name)) true refl;
+  parts = refl;
+  limit = refl;
+  policy = refl;
+  checked = refl;
+  root = subst (λ r. IsRoot r (string (owner_text name))) (sym e) (owner_form name h);
   first = refl;
   trace = refl;
 }
@@ -397,7 +413,7 @@ header_form header = record {
 opening_form : (said : OpeningLine) → IsSpellableLine said → IsOpening said (opening_json said)
 opening_form (line.Open header) h = record {
   names = names_spelled (codes "open" ∷ []) (opening_json (line.Open header)) true refl;
-  value = header_form header;
+  value = form_with header header.root refl h.root;
 }
 opening_form (line.Item item stamp value) h = record {
   names = names_spelled item_keys (opening_json (line.Item item stamp value)) true refl;
@@ -410,8 +426,9 @@ opening_form line.Begin h = record {
   value = refl;
 }
 
-header_sound : (n : ℕ) (header : Header) → IsSpellableHeader header → IsSound (header_json header) (suc n)
-header_sound n header h = (
+sound_with : (n : ℕ) (header : Header) (root : Option (List ℕ)) → IsSpellableHeader header → IsSpellableRoot root
+    → IsSound (json_with header root) (suc n)
+sound_with n header None h r = (
   (
     word (codes "checked") refl,
     tt,
@@ -435,12 +452,40 @@ header_sound n header h = (
   ),
   refl,
 )
+sound_with n header (Some name) h r = (
+  (
+    word (codes "checked") refl,
+    tt,
+    (
+      word (codes "first") refl,
+      h.first,
+      (
+        word (codes "limit") refl,
+        h.limit,
+        (
+          word (codes "parts") refl,
+          h.parts,
+          (
+            word (codes "policy") refl,
+            h.policy,
+            (
+              word (codes "root") refl,
+              owner_utf8 name r,
+              (word (codes "trace") refl, tt, tt),
+            ),
+          ),
+        ),
+      ),
+    ),
+  ),
+  refl,
+)
 
 stamp_fits : (stamp : ℕ) → IsTrue (is_stamp stamp) → FitsLine stamp
 stamp_fits stamp h = grind (arith, nat_tests)
 
 opening_sound : (said : OpeningLine) → IsSpellableLine said → IsSound (opening_json said) max_depth
-opening_sound (line.Open header) h = ((word (codes "open") refl, header_sound 125 header h, tt), refl)
+opening_sound (line.Open header) h = ((word (codes "open") refl, sound_with 125 header header.root h h.root, tt), refl)
 opening_sound (line.Item item stamp value) h = (
   (
     word (codes "item") refl,

@@ -27,6 +27,7 @@ opening_of header values =
       limit = header.limit;
       policy = header.policy;
       checked = header.checked;
+      root = header.root;
       first = header.first;
       items = values.rows;
       stamps = values.stamps;

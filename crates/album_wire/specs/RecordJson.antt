@@ -13,6 +13,7 @@ use Rattle.album_wire.specs.ValueJson.{object_data, item_json, owner_text}
 abbrev pub principal_text : Principal → List ℕ
 principal_text principal.Anonymous = codes "ANONYMOUS@"
 principal_text (principal.User name) = owner_text name
+principal_text (principal.Root name) = owner_text name
 
 -- a note as a replay writes it, and the principal; the index is that of the entry that takes note
 abbrev pub record_json : ℕ → Principal → Note → Data

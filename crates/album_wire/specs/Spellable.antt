@@ -121,10 +121,16 @@ is_spellable (value.Group group) = nat_le (length group.members) MAX_MEMBERS
 
 -- ---- lines
 
+-- a root, if there is one, is a user
+abbrev pub IsSpellableRoot : Option (List ℕ) → Type 0
+IsSpellableRoot None = ⊤
+IsSpellableRoot (Some name) = IsTrue (is_name name)
+
 pub record IsSpellableHeader (header : Header) : Type 0 where
   pub parts : FitsLine header.parts
   pub limit : FitsLine header.limit
   pub policy : FitsLine header.policy
+  pub root : IsSpellableRoot header.root
   pub first : FitsLine header.first
 
 -- a line of an opening

@@ -15,6 +15,7 @@ header_of opening = record {
   limit = opening.limit;
   policy = opening.policy;
   checked = opening.checked;
+  root = opening.root;
   first = opening.first;
   trace = false;
 }

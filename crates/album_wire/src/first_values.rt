@@ -65,6 +65,7 @@ impl FirstValues {
             limit: header.limit,
             policy: header.policy,
             checked: header.checked,
+            root: header.root,
             first: header.first,
             items: ItemValues::of(rows),
             stamps,

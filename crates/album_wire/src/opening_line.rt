@@ -1,15 +1,15 @@
 //! Lines of an opening: how the store is to be opened, the items with their first values and the stamps of these, and
 //! that this is all.
-ghost use Rattle.std.specs.Prelude.{◌≡◌, ◌++◌, [], ◌∷◌, true, false, None, Ok, Err, codes};
+ghost use Rattle.std.specs.Prelude.{◌≡◌, ◌++◌, [], ◌∷◌, true, false, Some, None, option_map, Ok, Err, codes};
 ghost use Rattle.album_stamps.specs.Outcome.{Gives};
 ghost use Rattle.album_items.specs.ItemIds.{picture, album, list};
 ghost use Rattle.album_wire.specs.ItemShapes.{spelled_head, spelled_value};
-ghost use Rattle.album_wire.specs.OpeningLine.{head_with, value_read, opening_read, opening_line_of};
-ghost use Rattle.album_wire.specs.OpeningShape.{spelled_opening};
+ghost use Rattle.album_wire.specs.OpeningLine.{head_with, header_with, root_read, value_read, opening_read, opening_line_of};
+ghost use Rattle.album_wire.specs.OpeningShape.{spelled_header, spelled_opening};
 
 use crate::item_shapes::{HeadShape, ValueShape};
 use crate::item_texts::{content, owner, title};
-use crate::opening_shape::{Header, OpeningShape, opening_shape};
+use crate::opening_shape::{Header, HeaderShape, OpeningShape, opening_shape};
 use album_items::{Album, Group, Head, ItemId, Items, Members, Picture, Value};
 use album_lines::{access_list, data, members};
 use album_lists::Name;
@@ -58,6 +58,7 @@ pub fn worked_openings()
           limit = 1000;
           policy = 1;
           checked = false;
+          root = None;
           first = 0;
           trace = true;
         })) }
@@ -68,6 +69,7 @@ pub fn worked_openings()
           limit = 100000;
           policy = 1;
           checked = false;
+          root = None;
           first = 0;
           trace = false;
         })) }
@@ -78,6 +80,7 @@ pub fn worked_openings()
           limit = 100000;
           policy = 1;
           checked = true;
+          root = None;
           first = 0;
           trace = false;
         })) }
@@ -88,6 +91,7 @@ pub fn worked_openings()
           limit = 100000;
           policy = 1;
           checked = false;
+          root = None;
           first = 0;
           trace = true;
         })) }
@@ -98,6 +102,7 @@ pub fn worked_openings()
           limit = 100000;
           policy = 1;
           checked = false;
+          root = None;
           first = 7;
           trace = false;
         })) }
@@ -108,6 +113,42 @@ pub fn worked_openings()
         ≡ Err Refusal.BadRequest }
     ensures checked_by_nothing { opening_line_of (codes "{\"open\":{\"checked\":null,\"parts\":16}}")
         ≡ Err Refusal.BadRequest }
+    ensures open_with_root { opening_line_of
+        (codes "{\"open\":{\"parts\":16,\"policy\":3,\"root\":\"amy@users\"}}")
+        ≡ Ok (OpeningLine.Open (record {
+          parts = 16;
+          limit = 100000;
+          policy = 3;
+          checked = false;
+          root = Some (codes "amy");
+          first = 0;
+          trace = false;
+        })) }
+    // Whether the policy is one that has a root isn't asked of the line by itself.
+    ensures root_of_policy_1 { opening_line_of (codes "{\"open\":{\"parts\":16,\"root\":\"bo@users\"}}")
+        ≡ Ok (OpeningLine.Open (record {
+          parts = 16;
+          limit = 100000;
+          policy = 1;
+          checked = false;
+          root = Some (codes "bo");
+          first = 0;
+          trace = false;
+        })) }
+    // No text is left out by nothing.
+    ensures root_of_nothing { opening_line_of (codes "{\"open\":{\"parts\":16,\"policy\":3,\"root\":null}}")
+        ≡ Err Refusal.BadRequest }
+    ensures root_by_number { opening_line_of (codes "{\"open\":{\"parts\":16,\"policy\":3,\"root\":7}}")
+        ≡ Err Refusal.BadRequest }
+    ensures root_by_name { opening_line_of (codes "{\"open\":{\"parts\":16,\"policy\":3,\"root\":\"amy\"}}")
+        ≡ Err Refusal.BadWho }
+    ensures root_by_group { opening_line_of
+        (codes "{\"open\":{\"parts\":16,\"policy\":3,\"root\":\"3@groups\"}}") ≡ Err Refusal.BadWho }
+    ensures root_by_anonymous { opening_line_of
+        (codes "{\"open\":{\"parts\":16,\"policy\":3,\"root\":\"ANONYMOUS@\"}}") ≡ Err Refusal.BadWho }
+    // The root is none, and the trace isn't a truth.
+    ensures header_shape_first { opening_line_of
+        (codes "{\"open\":{\"parts\":16,\"root\":\"amy\",\"trace\":1}}") ≡ Err Refusal.BadRequest }
     ensures picture_line { opening_line_of
         (codes "{\"item\":\"picture/0\",\"value\":{\"content\":\"736561\",\"group\":0,\"home\":0,\"list\":0,"
         ++ codes "\"owner\":\"amy@users\",\"title\":\"Sea\"}}")
@@ -169,11 +210,42 @@ fn line_of(alloc: Global, shape: OpeningShape) -> Result<OpeningLine, Refusal>
     ensures { Gives (λ line. line) result (opening_read (spelled_opening shape.entry)) }
 {
     match shape {
-        OpeningShape::Open(header) => Ok(OpeningLine::Open(header)),
+        OpeningShape::Open(header) => {
+            let root = root_of(header.root)?;
+            Ok(OpeningLine::Open(header_with(header, root)))
+        }
         OpeningShape::Item(item, stamp, value) => {
             Ok(OpeningLine::Item(item, stamp, value_of(alloc, value)?))
         }
         OpeningShape::Begin => Ok(OpeningLine::Begin),
+    }
+}
+
+/// The root, if there is one.
+fn root_of(text: Option<&str>) -> Result<Option<Name>, Refusal>
+    ensures { result ≡ root_read (option_map (λ t. t.now) text.entry) }
+{
+    match text {
+        None => Ok(None),
+        Some(text) => {
+            let name = owner(text)?;
+            Ok(Some(name))
+        }
+    }
+}
+
+/// The header with this root.
+fn header_with(shape: HeaderShape, root: Option<Name>) -> Header
+    ensures { result ≡ header_with (spelled_header shape.entry) root }
+{
+    Header {
+        parts: shape.parts,
+        limit: shape.limit,
+        policy: shape.policy,
+        checked: shape.checked,
+        root,
+        first: shape.first,
+        trace: shape.trace,
     }
 }
 

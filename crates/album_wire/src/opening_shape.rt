@@ -1,16 +1,17 @@
-//! The shape of a line of an opening: {open: {parts, and perhaps limit, policy, checked, first, trace}}, {item, value}
-//! or {begin}.
-ghost use Rattle.std.specs.Prelude.{◌≡◌, option_map};
+//! The shape of a line of an opening: {open: {parts, and perhaps limit, policy, checked, root, first, trace}}, {item,
+//! value} or {begin}.
+ghost use Rattle.std.specs.Prelude.{◌≡◌, None, option_map};
 ghost use Rattle.album_stamps.specs.Outcome.{Gives};
 ghost use Rattle.album_lines.specs.Fields.{member_or, whole_of, truth_of};
 ghost use Rattle.album_wire.specs.EventShape.{stamp_named};
-ghost use Rattle.album_wire.specs.OpeningShape.{spelled_opening, header_of, open_shape_of, item_shape_of, begin_shape_of, opening_shape_of};
+ghost use Rattle.album_wire.specs.OpeningShape.{spelled_header, spelled_opening, root_shape_of, header_of, open_shape_of, item_shape_of, begin_shape_of, opening_shape_of};
 ghost use Rattle.album_lines.specs.Trees.{value_data};
 
 use crate::event_shape::stamp_named;
 use crate::item_shapes::{ValueShape, item_under, value_shape};
 use album_items::ItemId;
-use album_lines::{field, has, member, only, truth, whole, whole_under};
+use album_lines::{field, has, member, only, text, truth, whole, whole_under};
+use album_lists::Name;
 use album_stamps::{Refusal, Stamp};
 use json::Value;
 use std::alloc::Global;
@@ -22,7 +23,7 @@ pub const DEFAULT_LIMIT: u64 = 100_000;
 pub const DEFAULT_POLICY: u64 = 1;
 
 /// How the store is to be opened.
-#[derive(Clone, Copy, Debug, PartialEq, Eq)]
+#[derive(Debug, Drop)]
 pub struct Header {
     /// How many partitions there are.
     pub parts: u64,
@@ -32,16 +33,47 @@ pub struct Header {
     pub policy: u64,
     /// Whether each write is kept only on the versions that its author saw.
     pub checked: bool,
+    /// Who has on each object what its owner has.
+    pub root: Option<Name>,
     /// The greatest counter of the stamps that the epochs before drew.
     pub first: u64,
     /// Whether each message that is sent is to be written.
     pub trace: bool,
 }
 
+impl Header {
+    /// Takes the header out, and leaves it without a root.
+    pub fn take_out(&mut self) -> Header
+        ensures { result ≡ self.old }
+    {
+        Header {
+            parts: self.parts,
+            limit: self.limit,
+            policy: self.policy,
+            checked: self.checked,
+            root: self.root.take(),
+            first: self.first,
+            trace: self.trace,
+        }
+    }
+}
+
+/// A header as a line spells it.
+#[derive(Clone, Copy)]
+pub(crate) struct HeaderShape<'a> {
+    pub(crate) parts: u64,
+    pub(crate) limit: u64,
+    pub(crate) policy: u64,
+    pub(crate) checked: bool,
+    pub(crate) root: Option<&'a str>,
+    pub(crate) first: u64,
+    pub(crate) trace: bool,
+}
+
 /// A line of an opening as it is spelled.
 #[derive(Drop)]
 pub(crate) enum OpeningShape<'a> {
-    Open(Header),
+    Open(HeaderShape<'a>),
     Item(ItemId, Stamp, ValueShape<'a>),
     Begin,
 }
@@ -72,24 +104,28 @@ fn open_shape<'a>(value: &Value<'a>) -> Result<OpeningShape<'a>, Refusal>
 }
 
 #[tactic(auto, unfolding(crate::specs::OpeningShape::header_of))]
-fn header_named(value: &Value<'_>) -> Result<Header, Refusal>
-    ensures { Gives (λ header. header) result (header_of (value_data value.now)) }
+fn header_named<'a>(value: &Value<'a>) -> Result<HeaderShape<'a>, Refusal>
+    ensures { Gives spelled_header result (header_of (value_data value.now)) }
 {
     only(
         value,
-        &["parts", "limit", "policy", "checked", "first", "trace"],
+        &[
+            "parts", "limit", "policy", "checked", "root", "first", "trace",
+        ],
     )?;
     let parts = whole_under(value, "parts")?;
     let limit = whole_or(DEFAULT_LIMIT, member(value, "limit"))?;
     let policy = whole_or(DEFAULT_POLICY, member(value, "policy"))?;
     let checked = truth_or(false, member(value, "checked"))?;
+    let root = root_or_none(member(value, "root"))?;
     let first = whole_or(0, member(value, "first"))?;
     let trace = truth_or(false, member(value, "trace"))?;
-    Ok(Header {
+    Ok(HeaderShape {
         parts,
         limit,
         policy,
         checked,
+        root,
         first,
         trace,
     })
@@ -111,6 +147,20 @@ fn truth_or(other: bool, value: Option<&Value<'_>>) -> Result<bool, Refusal>
     match value {
         None => Ok(other),
         Some(value) => truth(value),
+    }
+}
+
+/// The text of a root, if there is one.
+fn root_or_none<'a>(value: Option<&Value<'a>>) -> Result<Option<&'a str>, Refusal>
+    ensures { Gives (λ root. option_map (λ t. t.now) root) result
+        (member_or None root_shape_of (option_map (λ v. value_data v.now) value.entry)) }
+{
+    match value {
+        None => Ok(None),
+        Some(value) => {
+            let text = text(value)?;
+            Ok(Some(text))
+        }
     }
 }
 

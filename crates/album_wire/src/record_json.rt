@@ -39,6 +39,11 @@ pub fn worked_records()
         (record { object = picture 0; mask = record { 0 = 1 }; index = 1; alarm = false; success = true })
         ≡ codes "{\"alarm\":false,\"audit\":1,\"client\":2,\"mask\":1,\"object\":\"picture/0\","
         ++ codes "\"success\":true,\"who\":\"amy@users\"}\n" }
+    // Root is called by its name.
+    ensures root { record_text 2 (Principal.Root (codes "eve"))
+        (record { object = picture 0; mask = record { 0 = 1 }; index = 1; alarm = false; success = true })
+        ≡ codes "{\"alarm\":false,\"audit\":1,\"client\":2,\"mask\":1,\"object\":\"picture/0\","
+        ++ codes "\"success\":true,\"who\":\"eve@users\"}\n" }
     ensures anonymous { record_text 3 Principal.Anonymous
         (record { object = picture 7; mask = record { 0 = 2 }; index = 0; alarm = true; success = false })
         ≡ codes "{\"alarm\":true,\"audit\":0,\"client\":3,\"mask\":2,\"object\":\"picture/7\","
@@ -69,6 +74,6 @@ fn principal_text(alloc: Global, who: &Principal) -> Result<String, AllocError>
 {
     match who {
         Principal::Anonymous => String::from_str(alloc, "ANONYMOUS@"),
-        Principal::User(name) => owner_text(alloc, name),
+        Principal::User(name) | Principal::Root(name) => owner_text(alloc, name),
     }
 }

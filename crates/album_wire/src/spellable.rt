@@ -4,13 +4,13 @@ ghost use Rattle.std.specs.Prelude.{◌≡◌, All, IsTrue, length, nat_le};
 ghost use Rattle.std.specs.List.{list_all};
 ghost use Rattle.hex.specs.Hex.{IsBytes};
 ghost use Rattle.album_wire.specs.ItemShapes.{may_be_child};
-ghost use Rattle.album_wire.specs.Spellable.{IsSpellableItem, IsSpellableTitle, IsSpellableContent, IsSpellableWho, IsSpellableMember, IsSpellableHome, IsSpellableHead, IsSpellablePicture, IsSpellableAlbum, IsSpellableList, IsSpellableGroup, IsSpellable, IsSpellableLine, IsSpellableWrite, IsSpellableMark, is_spellable, is_spellable_write};
+ghost use Rattle.album_wire.specs.Spellable.{IsSpellableItem, IsSpellableTitle, IsSpellableContent, IsSpellableWho, IsSpellableMember, IsSpellableHome, IsSpellableHead, IsSpellablePicture, IsSpellableAlbum, IsSpellableList, IsSpellableGroup, IsSpellable, IsSpellableRoot, IsSpellableLine, IsSpellableWrite, IsSpellableMark, is_spellable, is_spellable_write};
 
 use crate::item_shapes::may_be_child;
 use crate::opening_line::OpeningLine;
 use crate::opening_shape::Header;
 use album_items::{Album, Content, Group, Head, ItemId, Picture, Title, Value};
-use album_lists::{AccessList, Ace, Member, Who};
+use album_lists::{AccessList, Ace, Member, Name, Who};
 use album_stamps::{MAX_MEMBERS, Stamp};
 
 /// Whether the value has a text in an opening that is read back: the value is there, the children of an
@@ -34,9 +34,15 @@ pub fn is_spellable_first_value(item: ItemId, stamp: Stamp, value: &Value) -> bo
 }
 
 /// A law: each header has a line that is read back.
-pub fn headers_are_spellable(header: Header)
-    ensures { IsSpellableLine (OpeningLine.Open header) }
-{}
+pub fn headers_are_spellable(header: &Header)
+    ensures { IsSpellableLine (OpeningLine.Open header.now) }
+{
+    let _parts = header.parts;
+    let _limit = header.limit;
+    let _policy = header.policy;
+    let _first = header.first;
+    root_fits(&header.root);
+}
 
 /// Whether the mark has a line that is read back: each value that its writes have could have one in an opening.
 pub fn is_spellable_mark(
@@ -151,6 +157,14 @@ fn head_fits(head: &Head)
     let _owner = head.owner.as_str();
     let _group = head.group;
     let _list = head.list;
+}
+
+fn root_fits(root: &Option<Name>)
+    ensures { IsSpellableRoot root.now }
+{
+    if let Some(name) = root {
+        let _text = name.as_str();
+    }
 }
 
 fn title_fits(title: &Title)

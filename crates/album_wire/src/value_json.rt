@@ -75,7 +75,7 @@ fn head_fields(alloc: Global, head: &Head) -> Result<Map<String, Value>, AllocEr
     with_member(alloc, fields, "owner", owner_json(alloc, &head.owner))
 }
 
-fn owner_json(alloc: Global, owner: &Name) -> Result<Value, AllocError>
+pub(crate) fn owner_json(alloc: Global, owner: &Name) -> Result<Value, AllocError>
     ensures { IfOk result (λ v. view v ≡ string (owner_text owner.now)) }
 {
     let text = owner_text(alloc, owner)?;

@@ -6,7 +6,7 @@ use crate::opening_shape::Header;
 use crate::opening_text::{write_begin, write_first_value, write_header};
 use album_items::{FirstStamps, ItemId, Opening, Value};
 use album_stamps::{Refusal, Stamp};
-use std::alloc::Global;
+use std::alloc::{AllocError, Global};
 
 /// The lines of an opening, by which a replay or a service opens on it too.
 ///
@@ -17,7 +17,8 @@ pub fn text_of_opening(alloc: Global, opening: &Opening) -> Result<Vec<u8>, Refu
     ensures text { IfOk result (λ text. text.items ≡ text_of_opening opening.now) }
     ensures memory { IsOkUnless result Refusal.OutOfMemory }
 {
-    let mut text = write_header(alloc, header_of(opening))?;
+    let header = header_of(opening)?;
+    let mut text = write_header(alloc, &header)?;
     add_rows(alloc, &mut text, opening.items.as_slice(), &opening.stamps)?;
     let last = write_begin(alloc)?;
     text.extend_from_slice(&last)?;
@@ -25,17 +26,19 @@ pub fn text_of_opening(alloc: Global, opening: &Opening) -> Result<Vec<u8>, Refu
 }
 
 /// The header of an opening of which no message is printed.
-fn header_of(opening: &Opening) -> Header
-    ensures { result ≡ header_of opening.now }
+fn header_of(opening: &Opening) -> Result<Header, AllocError>
+    ensures { IfOk result (λ header. header ≡ header_of opening.now) }
 {
-    Header {
+    let root = opening.root.clone()?;
+    Ok(Header {
         parts: opening.parts,
         limit: opening.limit,
         policy: opening.policy,
         checked: opening.checked,
+        root,
         first: opening.first,
         trace: false,
-    }
+    })
 }
 
 /// Adds the line of each row, with the stamp of its value.

@@ -68,6 +68,7 @@ opening_with checked limit =
       limit = limit;
       policy = 1;
       checked = checked;
+      root = None;
       first = 0;
       items = (picture 0, value.Picture (record { title = 83 ∷ []; content = []; head = head_with 0; home = 0 }))
           ∷ (

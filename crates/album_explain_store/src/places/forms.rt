@@ -11,7 +11,10 @@ use std::alloc::{AllocError, Global};
 
 impl Form {
     pub(crate) fn may_be_left_out(&self) -> bool {
-        matches!(self, Form::PerhapsWhole | Form::PerhapsTruth)
+        matches!(
+            self,
+            Form::PerhapsWhole | Form::PerhapsTruth | Form::PerhapsOwner
+        )
     }
 }
 
@@ -52,7 +55,8 @@ pub(crate) fn bad_form(
 /// Whether a value that has no parts has its form.
 fn has_form(form: Form, value: &Value<'_>) -> bool {
     match form {
-        Form::Word | Form::Title | Form::Content | Form::Owner | Form::Who => text(value).is_ok(),
+        Form::Word | Form::Title | Form::Content | Form::Owner | Form::PerhapsOwner | Form::Who =>
+            text(value).is_ok(),
         Form::Whole | Form::PerhapsWhole => whole(value).is_ok(),
         Form::PerhapsTruth => truth(value).is_ok(),
         Form::True => matches!(truth(value), Ok(true)),

@@ -1,6 +1,7 @@
-//! Where an opening as a whole is none: the line, and its part. The header is tested first. In a first epoch it is then
-//! how many items there are, then each item by itself, and then the items together; in a later one whether the items
-//! rise, then whether each has a value of its kind, and then their numbers. Last come the stamps.
+//! Where an opening as a whole is none: the line, and its part. The header is tested first: its numbers, then
+//! whether its policy is one that has a root. In a first epoch it is then how many items there are, then each item by
+//! itself, and then the items together; in a later one whether the items rise, then whether each has a value of its
+//! kind, and then their numbers. Last come the stamps.
 use album_access::AceFlags;
 use album_explain::Found;
 use album_items::{ItemId, Opening, Value, has_own_value};
@@ -21,6 +22,9 @@ pub(crate) fn bad_opening(
 ) -> Result<Option<Found>, AllocError> {
     if let Some((part, value)) = bad_header(opening) {
         return at_line(alloc, header_line, part, Some(value));
+    }
+    if opening.root.is_some() && opening.policy != 3 {
+        return at_line(alloc, header_line, "open.root", None);
     }
     let rows = opening.items.as_slice();
     let greatest = opening

@@ -17,6 +17,8 @@ pub(crate) enum Form {
     Title,
     Content,
     Owner,
+    /// A user who may be left out.
+    PerhapsOwner,
     /// A principal.
     Who,
     /// A number.
@@ -79,6 +81,7 @@ const OPEN: Rows = &[
     ("limit", Form::PerhapsWhole),
     ("policy", Form::PerhapsWhole),
     ("checked", Form::PerhapsTruth),
+    ("root", Form::PerhapsOwner),
     ("first", Form::PerhapsWhole),
     ("trace", Form::PerhapsTruth),
 ];

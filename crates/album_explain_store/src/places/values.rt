@@ -36,7 +36,7 @@ fn is_right(alloc: Global, form: Form, text: &str) -> Result<bool, AllocError> {
     match form {
         Form::Title => is_title(alloc, text),
         Form::Content => is_content(alloc, text),
-        Form::Owner => Ok(user_name(text).is_ok()),
+        Form::Owner | Form::PerhapsOwner => Ok(user_name(text).is_ok()),
         Form::Who => Ok(Principal::read(text).is_ok()),
         _ => Ok(true),
     }

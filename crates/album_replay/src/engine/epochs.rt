@@ -92,7 +92,7 @@ impl Epoch {
             (W.contents writer.old) (W.contents writer.new)) }
     {
         let (trace, stamps, world) = (self.trace, &self.opening.stamps, &mut self.world);
-        match event_line(alloc, scratch, line) {
+        match event_line(alloc, scratch, &self.opening.root, line) {
             Ok(Spelled::One(event)) => run_one(alloc, trace, stamps, world, event, writer),
             Ok(Spelled::Range(first, last)) => {
                 deliver_range(alloc, trace, stamps, world, first, last, writer)

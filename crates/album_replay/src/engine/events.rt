@@ -10,7 +10,7 @@ ghost use Rattle.album_wire.specs.EventLine.{deliveries};
 ghost use Rattle.album_lines.specs.Lines.{said};
 ghost use Rattle.album_wire.specs.OutJson.{out_line};
 ghost use Rattle.album_wire.specs.ShownStamps.{out_shown};
-ghost use Rattle.album_replay.specs.Replay.{Happens, Delivers, delivery_text, event_text, text_in, event_line_read, message_shown, outputs_text, showing};
+ghost use Rattle.album_replay.specs.Replay.{Happens, Delivers, delivery_text, event_text, text_in, acting_event, acting_events, event_line_read, message_shown, outputs_text, showing};
 ghost use Rattle.album_replay.specs.Epochs.{HasLed, Leads, MayLead};
 ghost use Rattle.album_judge.specs.Writes.{Writes, LeavesOf};
 
@@ -18,6 +18,7 @@ use album_calls::Message;
 use album_items::FirstStamps;
 use album_judge::{Fault, write_refused, write_text};
 use album_lines::LineIn;
+use album_lists::Name;
 use album_permits::{Event, Out};
 use album_stamps::Refusal;
 use album_wire::{Spelled, read_event, write_shown_out};
@@ -26,15 +27,42 @@ use json::Scratch;
 use std::alloc::Global;
 use std::io::Write;
 
-/// The events that a line spells, or a restart. Of a line that is too long nothing is read.
+/// The events that a line spells, each by the principal that acts, or a restart. Of a line that is too long nothing is
+/// read.
 pub(crate) fn event_line(
     alloc: Global,
     scratch: &mut Scratch,
+    root: &Option<Name>,
     line: &LineIn,
 ) -> Result<Spelled, Refusal>
-    ensures { Gives (λ events. events) result (event_line_read (said line.now)) }
+    ensures { Gives (λ events. events) result (event_line_read root.now (said line.now)) }
 {
-    read_event(alloc, scratch, line.bytes()?)
+    let events = read_event(alloc, scratch, line.bytes()?)?;
+    Ok(acting_events(root, events))
+}
+
+/// The same events, by the principal that acts.
+fn acting_events(root: &Option<Name>, events: Spelled) -> Spelled
+    ensures { result ≡ acting_events root.now events }
+{
+    match events {
+        Spelled::One(event) => Spelled::One(acting_event(root, event)),
+        Spelled::Range(first, last) => Spelled::Range(first, last),
+        Spelled::Restart => Spelled::Restart,
+    }
+}
+
+/// Who asks acts as root where it is the one that is named.
+fn acting_event(root: &Option<Name>, event: Event) -> Event
+    ensures { result ≡ acting_event root.now event }
+{
+    match event {
+        Event::Ask(client, principal, ask) => Event::Ask(client, principal.acting(root), ask),
+        Event::Deliver(number) => Event::Deliver(number),
+        Event::Sweep(part, stamp) => Event::Sweep(part, stamp),
+        Event::Stop(client) => Event::Stop(client),
+        Event::Trim(part, item) => Event::Trim(part, item),
+    }
 }
 
 /// Runs an event that a line spells by itself.

@@ -60,8 +60,9 @@ impl Stage {
                 self.go_on(alloc, next, writer)
             }
             Stage::BeingOpened(header, values) => {
+                let header = header.take_out();
                 let values = mem::replace(values, FirstValues::new(alloc));
-                let next = stage_after(alloc, later_line(alloc, scratch, *header, values, line));
+                let next = stage_after(alloc, later_line(alloc, scratch, header, values, line));
                 self.go_on(alloc, next, writer)
             }
             Stage::Running(epoch) => epoch.take(alloc, scratch, line, writer),

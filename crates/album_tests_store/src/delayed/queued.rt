@@ -39,6 +39,7 @@ fn opening(alloc: Global) -> Result<Opening, Refusal> {
         limit: 1000,
         policy: 1,
         checked: true,
+        root: None,
         first: 0,
         items: ItemValues::of(items),
         stamps: FirstStamps::new(alloc),

@@ -1,5 +1,3 @@
-use Rattle.std.specs.Ordering.{nat_cmp}
-use Rattle.std.specs.BTreeSet as set
 use Rattle.album_lines.specs.JudgeLine.{question}
 use Rattle.album_explain.proofs.Questions.{explained_on}
 use Rattle.album_explain.proofs.judging.explain_question.Goals as goal

@@ -33,6 +33,10 @@ pub returns-clause-written_and_read : goal.returns-clause-written_and_read
 unfolding lines_on_literals worlds_on_literals refusal_line replay_text
 returns-clause-written_and_read c = refl
 
+pub returns-clause-rooted : goal.returns-clause-rooted
+unfolding lines_on_literals worlds_on_literals refusal_line replay_text
+returns-clause-rooted c = refl
+
 pub returns-clause-anonymous_adds : goal.returns-clause-anonymous_adds
 unfolding lines_on_literals worlds_on_literals refusal_line replay_text
 returns-clause-anonymous_adds c = refl

@@ -14,11 +14,12 @@ returns-clause-base c =
       limit = opening.limit;
       policy = opening.policy;
       checked = opening.checked;
+      root = opening.root;
       first = c.max.result;
       items = c.in_ok-items.items;
       stamps = c.in_ok-items.stamps;
     } in
     next_base opening next c.requires.0 c.requires.1.passes
     (subst (λ (now : Now). IsNextOpening opening now next) c.requires.1.kept
-    (next_is opening c.args.world.now next c.highest_counter.result refl refl refl refl c.max.ensures
+    (next_is opening c.args.world.now next c.highest_counter.result refl refl refl refl refl c.max.ensures
     c.highest_counter.ensures.highest c.in_ok-items.ensures.folded c.in_ok-items.ensures.stamped))

@@ -15,4 +15,4 @@ returns-in-Ok-clause-answers g c =
 pub returns-in-Err-clause-answers : goal.returns-in-Err-clause-answers
 returns-in-Err-clause-answers g c =
     refused_dumped c.args.epoch.now.opening c.args.session.now c.leave.new.session c.in-Err.refusal c.write_refusal.result
-    c.leave.ensures.still c.write_refusal.ensures.text
+    c.leave.ensures.still c.in-Err.ensures.unleft c.write_refusal.ensures.text

@@ -4,7 +4,7 @@ use Rattle.std.proofs.lemmas.Result.{IfErr-weaker, on_ok_weaker, err_from_is_err
 use Rattle.album_sessions.proofs.SessionLemmas.{on_self, on_trans}
 use Rattle.album_judge.specs.declared.engine.TheConstants.{PIECE}
 use Rattle.album_talk.specs.Talk.{rules_of}
-use Rattle.album_talk.proofs.TalkTurns.{HasTalked, begins, left, has_read_more, prefix_so_far, turn_done, turn_left, turn_uncut, prefix_of_turn, last_done, last_left, prefix_of_last}
+use Rattle.album_talk.proofs.TalkTurns.{HasTalked, begins, has_read_more, prefix_so_far, turn_done, turn_left, turn_uncut, prefix_of_turn, last_done, last_left, prefix_of_last}
 use Rattle.album_talk.proofs.Recording.{by_outcome, recorded_begins, recorded_part, recorded_joined, recorded_part_joined}
 use Rattle.album_talk.proofs.talk.talk_on.Goals as goal
 

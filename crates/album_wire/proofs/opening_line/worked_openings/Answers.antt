@@ -34,6 +34,38 @@ pub returns-clause-checked_by_nothing : goal.returns-clause-checked_by_nothing
 unfolding lines_on_literals
 returns-clause-checked_by_nothing c = refl
 
+pub returns-clause-open_with_root : goal.returns-clause-open_with_root
+unfolding lines_on_literals
+returns-clause-open_with_root c = refl
+
+pub returns-clause-root_of_policy_1 : goal.returns-clause-root_of_policy_1
+unfolding lines_on_literals
+returns-clause-root_of_policy_1 c = refl
+
+pub returns-clause-root_of_nothing : goal.returns-clause-root_of_nothing
+unfolding lines_on_literals
+returns-clause-root_of_nothing c = refl
+
+pub returns-clause-root_by_number : goal.returns-clause-root_by_number
+unfolding lines_on_literals
+returns-clause-root_by_number c = refl
+
+pub returns-clause-root_by_name : goal.returns-clause-root_by_name
+unfolding lines_on_literals
+returns-clause-root_by_name c = refl
+
+pub returns-clause-root_by_group : goal.returns-clause-root_by_group
+unfolding lines_on_literals
+returns-clause-root_by_group c = refl
+
+pub returns-clause-root_by_anonymous : goal.returns-clause-root_by_anonymous
+unfolding lines_on_literals
+returns-clause-root_by_anonymous c = refl
+
+pub returns-clause-header_shape_first : goal.returns-clause-header_shape_first
+unfolding lines_on_literals
+returns-clause-header_shape_first c = refl
+
 pub returns-clause-picture_line : goal.returns-clause-picture_line
 unfolding lines_on_literals
 returns-clause-picture_line c = refl

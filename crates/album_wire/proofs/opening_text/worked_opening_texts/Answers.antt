@@ -6,6 +6,10 @@ pub returns-clause-open : goal.returns-clause-open
 unfolding lines_on_literals
 returns-clause-open c = refl
 
+pub returns-clause-rooted : goal.returns-clause-rooted
+unfolding lines_on_literals
+returns-clause-rooted c = refl
+
 pub returns-clause-item : goal.returns-clause-item
 unfolding lines_on_literals
 returns-clause-item c = refl

@@ -7,6 +7,10 @@ pub returns-clause-user : goal.returns-clause-user
 unfolding lines_on_literals record_text
 returns-clause-user c = refl
 
+pub returns-clause-root : goal.returns-clause-root
+unfolding lines_on_literals record_text
+returns-clause-root c = refl
+
 pub returns-clause-anonymous : goal.returns-clause-anonymous
 unfolding lines_on_literals record_text
 returns-clause-anonymous c = refl

@@ -1,6 +1,5 @@
-use Rattle.std.proofs.Common.{◌≡◌, None, Option, true, false, ap, sym, subst, ◌∙◌}
+use Rattle.std.proofs.Common.{◌≡◌, None, true, false, ap, sym, subst, ◌∙◌}
 use Rattle.std.specs.List.{list_all}
-use Rattle.album_eval.specs.declared.facts.Principal.{Principal}
 use Rattle.album_views.specs.Seen.{is_read}
 use Rattle.album_views.specs.Checks.{flaw_of}
 use Rattle.album_views.specs.ReadSets.{names_of}

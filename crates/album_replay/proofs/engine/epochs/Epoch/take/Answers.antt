@@ -1,9 +1,10 @@
-use Rattle.std.proofs.Common.{Ok, ap, ◌∙◌}
+use Rattle.std.proofs.Common.{Ok, sym, ap, ◌∙◌}
 use Rattle.std.proofs.lemmas.Result.{IfErr-weaker, on_ok_weaker}
 use Rattle.album_world.specs.Past.{Past}
 use Rattle.album_lines.specs.Lines.{said}
 use Rattle.album_judge.specs.Writes.{Writes, LeavesOf}
 use Rattle.album_replay.specs.Epochs.{EpochState, TakesLine, PrintsLine}
+use Rattle.album_replay.specs.Replay.{read_in}
 use Rattle.album_wire.specs.declared.event_shape.Spelled.TheVariants as spelled
 use Rattle.album_replay.proofs.Standing.{spelled_taken, spelled_left, restart_taken, restart_left, refusal_taken, refusal_left}
 use Rattle.album_replay.proofs.engine.epochs.Epoch.take.Goals as goal
@@ -55,13 +56,15 @@ returns-in-Err-clause-fault g c =
 pub returns-in-Ok-Restart-clause-ok : goal.returns-in-Ok-Restart-clause-ok
 returns-in-Ok-Restart-clause-ok g c =
     on_ok_weaker c.restart.result
-    (λ w past. restart_taken c.args.self.now past (said c.args.line.now) (c.in-Ok-Restart.ensures ∙ ap Ok c.in-Ok-Restart.field-0-is)
+    (λ w past. restart_taken c.args.self.now past (said c.args.line.now)
+    (ap (λ (e : EpochState). read_in e.of (said c.args.line.now)) (sym c.self.view_is) ∙ c.in-Ok-Restart.ensures ∙ ap Ok c.in-Ok-Restart.field-0-is)
     c.restart.new.self _ _ (rw c.self.view_is at w))
     c.restart.ensures.ok
 
 pub returns-in-Ok-Restart-clause-fault : goal.returns-in-Ok-Restart-clause-fault
 returns-in-Ok-Restart-clause-fault g c =
     IfErr-weaker c.restart.result _ _
-    (λ fault w past. restart_left c.args.self.now past (said c.args.line.now) (c.in-Ok-Restart.ensures ∙ ap Ok c.in-Ok-Restart.field-0-is)
+    (λ fault w past. restart_left c.args.self.now past (said c.args.line.now)
+    (ap (λ (e : EpochState). read_in e.of (said c.args.line.now)) (sym c.self.view_is) ∙ c.in-Ok-Restart.ensures ∙ ap Ok c.in-Ok-Restart.field-0-is)
     fault _ _ (rw c.self.view_is at w))
     c.restart.ensures.fault

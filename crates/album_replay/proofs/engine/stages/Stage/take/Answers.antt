@@ -36,7 +36,7 @@ returns-in-BeingOpened-clause-ok g c =
     let line = said c.args.line.now in
     let is = sym c.is_blank.ensures ∙ c.if-is_blank.false in
     let old = BeingOpened c.in-BeingOpened.header c.in-BeingOpened.values in
-    let goes_on = rw c.replace-values.ensures.value at c.later_line.ensures in
+    let goes_on = rw (c.take_out-header.ensures, c.replace-values.ensures.value) at c.later_line.ensures in
     let says = opened_by (later_line c.in-BeingOpened.header c.in-BeingOpened.values) (opening_line_read line) in
     on_ok_weaker c.go_on-in-BeingOpened.result
     (λ w past. rw c.in-BeingOpened.is (opening_taken old line says (λ step h. h) is c.stage_after-next-in-BeingOpened.result (c.stage_after-next-in-BeingOpened.ensures says goes_on)
@@ -48,7 +48,7 @@ returns-in-BeingOpened-clause-fault g c =
     let line = said c.args.line.now in
     let is = sym c.is_blank.ensures ∙ c.if-is_blank.false in
     let old = BeingOpened c.in-BeingOpened.header c.in-BeingOpened.values in
-    let goes_on = rw c.replace-values.ensures.value at c.later_line.ensures in
+    let goes_on = rw (c.take_out-header.ensures, c.replace-values.ensures.value) at c.later_line.ensures in
     let says = opened_by (later_line c.in-BeingOpened.header c.in-BeingOpened.values) (opening_line_read line) in
     IfErr-weaker c.go_on-in-BeingOpened.result _ _
     (λ fault w past. rw c.in-BeingOpened.is (opening_left old line says (λ step h. h) is c.stage_after-next-in-BeingOpened.result (c.stage_after-next-in-BeingOpened.ensures says goes_on) fault _ _ w))
