@@ -207,8 +207,8 @@ impl<J: DeskNames> PartitionChannel<J> {
         Ok(())
     }
 
-    /// Sends to the partition by this mailbox from now on, and gives the one that it had, if there is the partition. Then
-    /// all that the session asks goes by mailboxes, so that whoever relays it sees it.
+    /// Sends to the partition by this mailbox from now on, and gives the one that it had, if there is the partition.
+    /// Then all that the session asks goes by mailboxes, so that whoever relays it sees it.
     pub fn relay(
         &mut self,
         part: u16,

@@ -5,8 +5,8 @@ use Rattle.album_partition.specs.declared.marks.Mark.{Mark}
 use Rattle.album_epochs.specs.Folding.{AreFolded, AreFoldedStamps}
 use Rattle.album_epochs.specs.declared.next_opening.TheConstants.{MARGIN}
 
--- The counts, the policy and the root stay. The clocks begin so far above the counter, and above those of the epochs before; and
--- the rows and their stamps are what first values and histories are folded into.
+-- The counts, the policy and the root stay. The clocks begin so far above the counter, and above those of the epochs
+-- before; and the rows and their stamps are what first values and histories are folded into.
 pub record IsOpeningAfter (counter : ℕ) (opening : Opening) (histories : List (List Mark)) (next : Opening)
     : Type 0 where
   pub parts : next.parts ≡ opening.parts

@@ -15,8 +15,8 @@ use std::alloc::{AllocError, Global};
 pub const MARGIN: u64 = 1 << 24;
 
 /// The opening with which the next epoch begins, after one that opened on this, and whose partitions have made these
-/// histories. The counts, the policy and the root stay. Clocks begin above the counter, and above those of the epochs before. The
-/// rows and their stamps are the histories, folded.
+/// histories. The counts, the policy and the root stay. Clocks begin above the counter, and above those of the epochs
+/// before. The rows and their stamps are the histories, folded.
 ///
 /// # Errors
 ///

@@ -1,5 +1,5 @@
--- What partitions may open on: `opening_is_base` is for the law of `openings`, as `root_by_policy`. Of rows that rise no item has two
--- (`rising_single`), and a row that is below the next one is below all (`rises_at`).
+-- What partitions may open on: `opening_is_base` is for the law of `openings`, as `root_by_policy`. Of rows that rise
+-- no item has two (`rising_single`), and a row that is below the next one is below all (`rises_at`).
 use Rattle.std.proofs.Common.{◌≡◌, ◌==◌, ◌&&◌, ◌||◌, ◌<◌, ℕ, List, [], ◌∷◌, length, slice_index_or, nat_le, nat_lt, Bool, true, false, not, Some, refl, sym, ap, ◌∙◌, subst, arith, if◌then◌else◌, eqb-true}
 use Rattle.std.specs.List.{list_all, list_any}
 use Rattle.std.proofs.lemmas.Bool.{and_parts, and_from, leb-true, leb-false}

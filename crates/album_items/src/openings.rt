@@ -48,7 +48,8 @@ pub struct Opening {
 
 impl Opening {
     /// Whether the service may open with it: its counts, then its root, then each item by itself, then the items
-    /// together, then the stamps. A later epoch's items rise, and each has a value of its kind and numbers that the epochs before gave.
+    /// together, then the stamps. A later epoch's items rise, and each has a value of its kind and numbers that the
+    /// epochs before gave.
     ///
     /// # Errors
     ///

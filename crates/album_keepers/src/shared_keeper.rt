@@ -1,5 +1,5 @@
-//! A partition's keeper under a lock, which its thread and the sessions share. Whoever has the lock lets the keeper take
-//! messages. So mostly a request waits for no other thread.
+//! A partition's keeper under a lock, which its thread and the sessions share. Whoever has the lock lets the keeper
+//! take messages. So mostly a request waits for no other thread.
 ghost use Rattle.std.specs.Prelude.{◌≡◌, ◌&&◌, true, All, Some, IfOk, IfSome, IsOkUnless};
 ghost use Rattle.album_stamps.specs.declared.refusals.Refusal.TheVariants.{OutOfMemory};
 ghost use Rattle.album_partition.specs.Answers.{answer};
@@ -51,7 +51,8 @@ impl<J: DeskNames> Locked<J> {
 
 /// The keeper of a partition, under its lock. Contracts see whether the service has a log.
 pub struct SharedKeeper<J: DeskNames> {
-    /// Whether the service has a log. Then what may be prepared goes by the partition's mailbox, and its reply by the log.
+    /// Whether the service has a log. Then what may be prepared goes by the partition's mailbox, and its reply by the
+    /// log.
     logged: bool,
     locked: Mutex<Locked<J>>,
 }

@@ -1,6 +1,6 @@
 -- A ruling sees of a snapshot what it sees of it when it is bared of titles, contents, children and stamps
--- (`seen-bared`, `basis-bared`); two that are ruled alike agree when they are bared (`agree-bared`), so that a reason is
--- the same on both (`reason-both`), and the rows too that may be seen (`rows-alike`). For the law
+-- (`seen-bared`, `basis-bared`); two that are ruled alike agree when they are bared (`agree-bared`), so that a reason
+-- is the same on both (`reason-both`), and the rows too that may be seen (`rows-alike`). For the law
 -- `listings_disclose_nothing`, and for those of rulings.
 use Rattle.std.proofs.Common.{◌≡◌, ◌==◌, ◌&&◌, ◌<◌, ℕ, zero, suc, List, [], ◌∷◌, Bool, true, false, Option, Some, None, Contains, IsTrue, cond, find, map, option_map, refl, sym, ap, subst, ◌∙◌, arith, if◌then◌else◌}
 use Rattle.std.specs.List.{filter_map, slice_index_or}

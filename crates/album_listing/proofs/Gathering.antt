@@ -1,4 +1,5 @@
--- The members of the groups of a view, gathered item by item, for `groups::listed_in` (`gathered-more`, `gathered-other`,
+-- The members of the groups of a view, gathered item by item, for `groups::listed_in` (`gathered-more`,
+-- `gathered-other`,
 -- `gathered-all`), and who is in a group by them, for `groups::groups_in` (`groups-are`).
 use Rattle.std.proofs.Common.{◌≡◌, ◌≢◌, ◌<◌, ◌≤◌, ◌+◌, ◌||◌, ◌==◌, ◌++◌, ◌↔◌, ℕ, zero, suc, List, [], ◌∷◌, Bool, true, false, cond, filter, Option, Some, None, is_some, length, take, get_or, refl, sym, ap, subst, ◌∙◌, arith, Contains, IsTrue, if◌then◌else◌}
 use Rattle.std.specs.Option.{option_map_or}

@@ -1,4 +1,5 @@
--- On two snapshots that agree on what is named the same is found (`ruling-alike`) and noted (`notes-alike`), for the law
+-- On two snapshots that agree on what is named the same is found (`ruling-alike`) and noted (`notes-alike`), for the
+-- law
 -- `rulings_look_at_what_is_named`. The needs are the same, and each of their objects is a subject.
 use Rattle.std.proofs.Common.{◌≡◌, ◌==◌, ◌&&◌, ◌||◌, ◌++◌, ◌+◌, ◌<◌, ℕ, zero, suc, List, [], ◌∷◌, length, get_or, Bool, true, false, not, Option, Some, None, Contains, map, take, position, is_none, is_some, option_map, option_to_list, refl, sym, ap, subst, ◌∙◌, arith, if◌then◌else◌}
 use Rattle.std.specs.List.{flat_map, list_any, cons_option}

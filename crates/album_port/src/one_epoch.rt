@@ -63,8 +63,8 @@ where
 ///
 /// # Errors
 ///
-/// Those of `attend_all`; `Memory`, also where a partition has ended for want of it, or no session could be opened for a
-/// minute; `Writing`, also where the log failed.
+/// Those of `attend_all`; `Memory`, also where a partition has ended for want of it, or no session could be opened for
+/// a minute; `Writing`, also where the log failed.
 fn serve_all<J, T, L, W>(
     rt: T,
     alloc: Global,

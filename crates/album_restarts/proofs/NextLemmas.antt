@@ -1,5 +1,5 @@
--- Where each row of the next opening is from (`row_granted`), and what else the next opening has, for `next_opening` and
--- the laws of it.
+-- Where each row of the next opening is from (`row_granted`), and what else the next opening has, for `next_opening`
+-- and the laws of it.
 use Rattle.std.proofs.Common.{◌≡◌, ◌≢◌, ℕ, ◌≤◌, Bool, true, false, ◌==◌, List, Contains, Option, Some, ◌⊎◌, inl, inr, if◌then◌else◌, refl, sym, ap, ◌∙◌, subst, arith, max}
 use Rattle.std.specs.List.Sorted.{IsStrictlySortedBy}
 use Rattle.std.specs.Option.{unwrap_or}

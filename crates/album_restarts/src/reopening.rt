@@ -14,8 +14,8 @@ use album_world::World;
 use std::alloc::Global;
 
 /// The opening with which the next epoch begins, once all the world's clients and messages are lost. The world opened
-/// on this opening. The counts, the policy and the root stay. Each clock begins above all of the world's clocks, and the
-/// rows and their stamps are its histories, folded.
+/// on this opening. The counts, the policy and the root stay. Each clock begins above all of the world's clocks, and
+/// the rows and their stamps are its histories, folded.
 ///
 /// # Errors
 ///

@@ -1,5 +1,5 @@
--- An album gets no more children than it may have, for the law of `filling`: all that is written is bounded by what was,
--- but for the album that gets a child, and that has room.
+-- An album gets no more children than it may have, for the law of `filling`: all that is written is bounded by what
+-- was, but for the album that gets a child, and that has room.
 use Rattle.std.proofs.Common.{◌≡◌, ◌<◌, ◌≤◌, ◌++◌, ◌==◌, ℕ, List, [], ◌∷◌, false, not, Contains, length, map, refl, sym, subst, arith}
 use Rattle.std.specs.List.{flat_map, count_by}
 use Rattle.std.proofs.lemmas.Bool.{leb-false}

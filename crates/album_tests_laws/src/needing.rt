@@ -76,8 +76,8 @@ pub fn a_share_needs_each_right()
         && list_all (λ (new : NewMembership). is_granted_on basis new.object WRITE_DATA) members) }
 {}
 
-/// A law: by policy 3 whoever has on an object what its owner has reads its list and sets it, whatever the list says and
-/// whatever groups there are. Root has that on each object that is there.
+/// A law: by policy 3 whoever has on an object what its owner has reads its list and sets it, whatever the list says
+/// and whatever groups there are. Root has that on each object that is there.
 pub fn owners_are_never_locked_out()
     ensures entries { (basis : Basis) (object : ℕ)
         → basis.policy ≡ Three → is_owned_by basis.principal (basis.seen object) ≡ true

@@ -1,7 +1,7 @@
 //! Tests of what no script of lines reaches, over a store that a table spells. They are of asks and their copies, the
-//! names of a snapshot, what root has, a listing of what is missing, what writes keep, and replies to a write. Others are
-//! of the audit book, and of calls that are refused for want of memory. The scripts in `rows/replay` show the answers to
-//! asks.
+//! names of a snapshot, what root has, a listing of what is missing, what writes keep, and replies to a write. Others
+//! are of the audit book, and of calls that are refused for want of memory. The scripts in `rows/replay` show the
+//! answers to asks.
 //!
 //! Read `store` and `asks` first, which spell what the tests begin with.
 #![tactic(auto)]

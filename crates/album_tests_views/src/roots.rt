@@ -18,8 +18,8 @@ const DENY: AceType = AceType::Denied;
 /// The flag of an entry for a group.
 const GROUP: u32 = 64;
 
-/// Pictures of amy's. The list of picture/0 is for its owner, that of picture/1 for all but its owner, that of picture/2
-/// for eight groups.
+/// Pictures of amy's. The list of picture/0 is for its owner, that of picture/1 for all but its owner, that of
+/// picture/2 for eight groups.
 const STORE: Store = &[
     ("picture/0", Is::Picture(0)),
     ("list/0", Is::List(&[(ALLOW, "OWNER@", 1, 0)])),

@@ -18,8 +18,8 @@ abbrev pub AreBetween : Cut → Cut → List (List Mark) → Type 0
 AreBetween old new histories = (part : ℕ) → part < length histories
     → IsPrefix (prefix_at old part) (marks_at histories part) × IsPrefix (marks_at histories part) (prefix_at new part)
 
--- The next epoch opens on what is carried of a part of a sound cut. That part has all that this cut has. The counts, the
--- policy and the root stay, and the clocks begin above all that the part has a mark of.
+-- The next epoch opens on what is carried of a part of a sound cut. That part has all that this cut has. The counts,
+-- the policy and the root stay, and the clocks begin above all that the part has a mark of.
 pub record IsLeftTo (cut : Cut) (opening next : Opening) : Type 0 where
   pub left : Cut
   pub is_left : IsLeft left

@@ -1,5 +1,5 @@
--- No line that is written has a float. For `write_out`: `no_float_in_note`, `no_float_in_answer` with those of its lists,
--- and `no_float_in_message`; for `write_talk`: `no_float_in_talk`; for `write_record`: `no_float_in_record`; for
+-- No line that is written has a float. For `write_out`: `no_float_in_note`, `no_float_in_answer` with those of its
+-- lists, and `no_float_in_message`; for `write_talk`: `no_float_in_talk`; for `write_record`: `no_float_in_record`; for
 -- `write_figures`: `no_float_in_figures`; for the lines of an opening: `no_float_in_header` and
 -- `no_float_in_first_value`; for `write_mark`: `no_float_in_mark`.
 use Rattle.std.proofs.Common.{◌≡◌, ℕ, List, [], ◌∷◌, map, false, Some, None, Option, Result, IfOk, refl, ap, ◌∙◌}

@@ -158,8 +158,8 @@ abbrev raced : Bool → List Event → List Answer
 raced checked asks =
     map (λ (given : PastAnswer). given.answer) (run_of (opening_with checked 1000) (asks ++ delivers 1 60)).past.answers
 
--- Amy gives the picture two other titles at once, by two clients. Where writes are checked, the second one is refused at
--- its Prepare, before the first is committed.
+-- Amy gives the picture two other titles at once, by two clients. Where writes are checked, the second one is refused
+-- at its Prepare, before the first is committed.
 abbrev two_titles : List Event
 two_titles = retitle ∷ event.Ask 2 amy (ask.Retitle (picture 0) (67 ∷ [])) ∷ []
 
