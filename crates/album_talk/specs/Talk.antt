@@ -49,7 +49,16 @@ rules_of admins epoch = record { admins = admins; epoch = epoch }
 -- an epoch of which nothing is known
 abbrev pub unknown_epoch : Epoch
 unknown_epoch = record {
-  opening = record { parts = 0; limit = 0; policy = 0; checked = false; root = None; first = 0; items = []; stamps = [] };
+  opening = record {
+    parts = 0;
+    limit = 0;
+    policy = 0;
+    checked = false;
+    root = None;
+    first = 0;
+    items = [];
+    stamps = [];
+  };
   number = None;
 }
 
