@@ -368,15 +368,8 @@ where
         number: *number,
         said,
     };
-    let from = FirstWords {
-        rt,
-        peer,
-        incoming,
-        said,
-        idle: shared.limits.idle,
-    };
     let mut from = EpochReader {
-        from,
+        from: FirstWords::new(rt, peer, incoming, said, shared.limits.idle),
         turn: shared.turn.as_ref(),
         has_left: false,
     };

@@ -69,6 +69,25 @@ pub(crate) struct FirstWords<'a, T> {
     pub idle: Option<Duration>,
 }
 
+impl<'a, T> FirstWords<'a, T> {
+    /// Of what comes from the peer.
+    pub(crate) fn new(
+        rt: T,
+        peer: &'a Peer,
+        incoming: &'a mut Incoming,
+        said: &'a Said,
+        idle: Option<Duration>,
+    ) -> FirstWords<'a, T> {
+        FirstWords {
+            rt,
+            peer,
+            incoming,
+            said,
+            idle,
+        }
+    }
+}
+
 impl<T: Wait + time::Clock + Copy> Read for FirstWords<'_, T> {
     fn read(&mut self, buf: &mut [u8]) -> io::Result<usize> {
         let mut from = Resumed {

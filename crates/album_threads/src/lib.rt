@@ -7,7 +7,7 @@
 //! reply back with a pass that shows the reply's history. A service opens the threads, gives each session its channel,
 //! and has what they share: a board, an audit book, and hints.
 //!
-//! Read `service` first, then `opened` and `visit`, with specs/Opened.antt. `gauge` has the figures of a running
+//! Read `service` first, then `running`, `opened` and `visit`, with specs/Opened.antt. `gauge` has the figures of a running
 //! service (`--stats`).
 #![tactic(auto)]
 
@@ -15,6 +15,7 @@
 mod gauge;
 mod opened;
 mod owned_session;
+mod running;
 mod service;
 mod visit;
 

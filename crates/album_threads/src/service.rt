@@ -1,5 +1,5 @@
-//! A running service: a thread for each partition.
-ghost use Rattle.std.specs.Prelude.{◌≡◌, ◌≤◌, ◌⊎◌, IfOk, IfErr, IsOkUnless, None, length, vec_len};
+//! A running service.
+ghost use Rattle.std.specs.Prelude.{◌≡◌, ◌≤◌, ◌⊎◌, IfOk, IfErr, IsOkUnless, None, vec_len};
 ghost use Rattle.std.specs.Arc.{arc_value};
 ghost use Rattle.album_stamps.specs.declared.limits.TheConstants.{MAX_COUNTER, MAX_PARTS};
 ghost use Rattle.album_audit.specs.Books.{new_share};
@@ -8,22 +8,21 @@ ghost use Rattle.album_threads.specs.Opened.{opened_as};
 
 use crate::gauge::Gauge;
 use crate::opened::Opened;
+use crate::running::{Running, copies_of, in_order};
 use album_audit::{AuditBook, Totals};
 use album_board::Board;
 use album_channels::PartitionChannel;
 use album_eval::Policy;
-use album_keepers::{
-    Breakage, Gate, HeldMail, MarkLog, NoLog, PartitionMail, SharedKeeper, start_all, start_log,
-};
+use album_keepers::{Breakage, Gate, MarkLog, NoLog};
 use album_passes::{Desk, Pass};
 use album_sessions::{Hints, ServiceNames, Session, Stripes};
 use album_stamps::Refusal;
-use crossbeam_channel::{Receiver, SendError, Sender, unbounded};
+use crossbeam_channel::unbounded;
 use std::alloc::{AllocError, Global};
 use std::marker::PhantomData;
 use std::sync::{Arc, Mutex, Wait};
-use std::thread::{JoinHandle, Threads};
-use std::{thread, time};
+use std::thread::Threads;
+use std::time;
 
 /// A running service, of the desk, the policy and the audit book that `J` names. It has threads, and
 /// ends by `close`.
@@ -44,14 +43,8 @@ pub struct Service<J: ServiceNames> {
     checked: bool,
     /// The counter above which sessions draw their stamps.
     first: u64,
-    /// Of the partitions, in order.
-    mailboxes: Vec<Sender<PartitionMail<J>>>,
-    threads: Vec<JoinHandle<()>>,
-    /// The thread of the log, if there is one.
-    logging: Option<JoinHandle<()>>,
+    running: Running<J>,
     breakage: Arc<Breakage, Global>,
-    /// The keepers of the partitions, the last one first, where sessions may let them take messages.
-    keepers: Vec<Arc<SharedKeeper<J>, Global>>,
     ghost table_is: { (arc_value desk).table ≡ J.table },
     ghost terms_are: { (arc_value desk).terms ≡ J.terms },
     ghost policy_is: { policy ≡ J.policy },
@@ -61,7 +54,7 @@ pub struct Service<J: ServiceNames> {
     ghost low: { first ≤ MAX_COUNTER },
     ghost some: { 1 ≤ parts },
     ghost few: { parts ≤ MAX_PARTS },
-    ghost mailboxes_are: { vec_len mailboxes ≡ parts },
+    ghost mailboxes_are: { vec_len running.mailboxes ≡ parts },
 }
 
 impl<J: ServiceNames + Send + 'static> Service<J> {
@@ -114,38 +107,20 @@ impl<J: ServiceNames + Send + 'static> Service<J> {
         let board = Board::open(list, pass.split(&desk));
         let shared = shared_of(alloc, board, AuditBook::new(blanks), hints)?;
         let desk = Arc::new(alloc, desk)?;
-        let is_open = gate.is_open();
-        let gate = Arc::new(alloc, gate)?;
         let seed = Mutex::new(Seed {
             pass,
             of: PhantomData,
         });
-        let (mailboxes, mails) = mailboxes_for(alloc, owners.len())?;
-        let (mut threads, mut keepers) = (Vec::new(alloc), Vec::new(alloc));
-        let (to_log, logging) = begin_log(rt, alloc, log, &gate, &shared.breakage)?;
-        let started = start_all(
+        let running = Running::begin(
             rt,
             alloc,
             &desk,
-            &gate,
+            gate,
             &shared.breakage,
             owners,
             partitions,
-            &mailboxes,
-            mails,
-            &to_log,
-            &mut threads,
-            &mut keepers,
-        );
-        // Its thread ends once the partitions' have, since nobody else can send to it.
-        drop(to_log);
-        if started.is_err() {
-            leave_all(&rt, &mailboxes, threads, logging);
-            return Err(Refusal::OutOfMemory);
-        }
-        if !is_open {
-            keepers.clear();
-        }
+            log,
+        )?;
         let Shared {
             board,
             book,
@@ -166,11 +141,8 @@ impl<J: ServiceNames + Send + 'static> Service<J> {
             parts,
             checked,
             first,
-            mailboxes,
-            threads,
-            logging,
+            running,
             breakage,
-            keepers,
         })
     }
 
@@ -190,13 +162,10 @@ impl<J: ServiceNames + Send + 'static> Service<J> {
             parts: _,
             checked: _,
             first: _,
-            mailboxes,
-            threads,
-            logging,
+            running,
             breakage: _,
-            keepers: _,
         } = self;
-        leave_all(rt, &mailboxes, threads, logging);
+        running.end(rt);
         book.lock(rt).totals()
     }
 }
@@ -256,8 +225,8 @@ impl<J: ServiceNames> Service<J> {
     {
         let desk = Arc::try_clone(&self.desk)?;
         let breakage = Arc::try_clone(&self.breakage)?;
-        let to = copies_of(self.alloc, &self.mailboxes)?;
-        let keepers = in_order(self.alloc, &self.keepers)?;
+        let to = copies_of(self.alloc, &self.running.mailboxes)?;
+        let keepers = in_order(self.alloc, &self.running.keepers)?;
         let (end, from) = unbounded(self.alloc)?;
         let mut pass = self.seed.lock(rt).split(&desk);
         let client = desk.draw(rt, &mut pass)?;
@@ -312,7 +281,7 @@ impl<J: ServiceNames> Service<J> {
     {
         Ok(Gauge {
             alloc: self.alloc,
-            mailboxes: copies_of(self.alloc, &self.mailboxes)?,
+            mailboxes: copies_of(self.alloc, &self.running.mailboxes)?,
             book: Arc::try_clone(&self.book)?,
         })
     }
@@ -373,111 +342,4 @@ fn shared_of<J: ServiceNames>(
         stripes,
         breakage,
     })
-}
-
-/// The same mailboxes once more.
-fn copies_of<J: ServiceNames>(
-    alloc: Global,
-    mailboxes: &[Sender<PartitionMail<J>>],
-) -> Result<Vec<Sender<PartitionMail<J>>>, AllocError>
-    ensures { IfOk result (λ copies. vec_len copies ≡ length mailboxes.now) }
-{
-    let mut copies = Vec::new(alloc);
-    for mailbox in mailboxes {
-        copies.push(mailbox.clone()?)?;
-    }
-    Ok(copies)
-}
-
-/// The same keepers once more, from the last to the first: so those of the first partitions come first.
-fn in_order<J: ServiceNames>(
-    alloc: Global,
-    keepers: &[Arc<SharedKeeper<J>, Global>],
-) -> Result<Vec<Arc<SharedKeeper<J>, Global>>, AllocError> {
-    let mut copies = Vec::with_capacity(alloc, keepers.len())?;
-    for keeper in keepers.iter().rev() {
-        copies.push(Arc::try_clone(keeper)?)?;
-    }
-    Ok(copies)
-}
-
-/// `count` channels: senders and receivers.
-fn mailboxes_for<J: ServiceNames>(
-    alloc: Global,
-    count: usize,
-) -> Result<
-    (
-        Vec<Sender<PartitionMail<J>>>,
-        Vec<Receiver<PartitionMail<J>>>,
-    ),
-    AllocError,
->
-    ensures { IfOk result (λ both. vec_len both.0 ≡ count) }
-{
-    let mut mailboxes = Vec::new(alloc);
-    let mut mails = Vec::new(alloc);
-    for _made in 0..count {
-        let (to, from) = unbounded(alloc)?;
-        mailboxes.push(to)?;
-        mails.push(from)?;
-    }
-    Ok((mailboxes, mails))
-}
-
-/// Starts the thread of the log, if there is one, and gives the mailbox to which the partitions send.
-///
-/// # Errors
-///
-/// `AllocError`, also where the thread can't be had.
-fn begin_log<
-    J: ServiceNames + Send + 'static,
-    L: MarkLog + Drop + Send + 'static,
-    R: Threads + Wait + time::Clock + Copy + Send + 'static,
-    G: Gate + Drop + Send + Sync + 'static,
->(
-    rt: R,
-    alloc: Global,
-    log: Option<L>,
-    gate: &Arc<G, Global>,
-    breakage: &Arc<Breakage, Global>,
-) -> Result<(Option<Sender<HeldMail<J>>>, Option<JoinHandle<()>>), AllocError> {
-    let Some(log) = log else {
-        return Ok((None, None));
-    };
-    let (to_log, mails) = unbounded(alloc)?;
-    let thread = start_log(rt, alloc, log, gate, breakage, mails)?;
-    Ok((Some(to_log), Some(thread)))
-}
-
-/// Has each partition's thread leave, and joins those that run, and then that of the log, which ends after them.
-fn leave_all<J: ServiceNames, R: Threads + Wait>(
-    rt: &R,
-    mailboxes: &[Sender<PartitionMail<J>>],
-    threads: Vec<JoinHandle<()>>,
-    logging: Option<JoinHandle<()>>,
-) {
-    for mailbox in mailboxes {
-        leave(rt, mailbox);
-    }
-    for thread in threads {
-        thread.join(rt);
-    }
-    if let Some(thread) = logging {
-        thread.join(rt);
-    }
-}
-
-/// Has a partition's thread leave, again until its mailbox takes it.
-fn leave<J: ServiceNames, R: Wait>(rt: &R, mailbox: &Sender<PartitionMail<J>>) {
-    for _ in rt.forever() {
-        let sent = mailbox.send(rt, PartitionMail::Leave);
-        let again = matches!(&sent, Err(SendError::OutOfMemory(_)));
-        drop(sent);
-        if !again {
-            return;
-        }
-        thread::yield_now();
-    }
-    // `forever` has no end.
-    unreachable!()
 }
