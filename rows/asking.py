@@ -92,17 +92,19 @@ def spelled_bits_and_contents(program):
 
 
 def spelled_new_objects(program):
-    """The commit of a new picture or album names it, whichever way the ask was sent; another commit, and a denial, name
-    nothing."""
-    adds = [{**NEW, "content": ""}, {"album": "album/0", "do": "add_album", "title": "Inner"}]
+    """The commit of a new picture, album or group names it, whichever way the ask was sent; another commit, and a
+    denial, name nothing."""
+    adds = [{**NEW, "content": ""}, {"album": "album/0", "do": "add_album", "title": "Inner"},
+            {"album": "album/0", "do": "add_group", "members": []}]
     adds += [{"ask": add} for add in adds]
     retitle = {"do": "retitle", "object": "picture/0", "title": "Cape"}
     with Service(program, OPENING, 2) as service:
         text = b"".join(compact(line) for line in (*adds, retitle, {"ask": retitle}))
-        made = (("picture", 65537), ("album", 131073), ("picture", 196609), ("album", 262145))
+        made = (("picture", 65537), ("album", 131073), ("group", 196609), ("picture", 262145), ("album", 327681),
+                ("group", 393217))
         wanted = b"".join(compact({"answer": "committed", "client": 1, "object": f"{kind}/{stamp}", "stamp": stamp})
                           for kind, stamp in made)
-        wanted += b"".join(compact({"answer": "committed", "client": 1, "stamp": stamp}) for stamp in (327681, 393217))
+        wanted += b"".join(compact({"answer": "committed", "client": 1, "stamp": stamp}) for stamp in (458753, 524289))
         want((0, wanted, b""), asked(program, service.port, ["--as", "amy@users", "--text"], text), "the run of amy")
 
         text = compact({"ask": {"do": "retitle", "object": "album/0", "title": ""}}) + compact({"ask": {"do": "sing"}})
@@ -117,8 +119,8 @@ def nobody_is_there(program):
     status, out, err = asked(program, free_port(), ["--as", "bo@users"], compact(READ))
     want((1, b"", True), (status, out, err.startswith(b"album: port ")), "a run without a service")
     with Service(program, OPENING, 2) as service:
-        ended = b"album: the service has not answered to the end\n"
-        want((1, b'{"name":"BadWho","refused":4}\n', ended), asked(program, service.port, ["--as", "bo"], b""), "nobody")
+        unknown = b"album: the service doesn't talk to bo (a principal is name@users or ANONYMOUS@)\n"
+        want((1, b'{"name":"BadWho","refused":4}\n', unknown), asked(program, service.port, ["--as", "bo"], b""), "nobody")
         want((0, b"", b""), asked(program, service.port, ["--as", "bo@users"], b""), "a run that asks nothing")
         service.end(NOTHING_NOTED, [b""])
 

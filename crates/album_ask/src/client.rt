@@ -22,9 +22,20 @@ pub struct Asking<'a> {
     pub turns: u64,
 }
 
+/// How a conversation has ended.
+#[derive(Clone, Copy, Debug)]
+pub enum Ended {
+    /// All was answered.
+    Whole,
+    /// The service refused who talks.
+    Refused,
+    /// The service went away, or refused what all else rests on, before all was answered.
+    Cut,
+}
+
 /// Says who the principal is, and then sends each line of the requests, to their end, and writes its answer.
-/// Blank lines are left out. A line that has a key `do` is sent as an ask, any other as it is. Returns whether the
-/// service answered all. Where it refuses the principal, the refusal is written, and nothing is asked.
+/// Blank lines are left out. A line that has a key `do` is sent as an ask, any other as it is. Where the service
+/// refuses the principal, the refusal is written, and nothing is asked.
 ///
 /// # Errors
 ///
@@ -36,16 +47,21 @@ pub fn ask<R: Read, W: Write, S: Read + Write>(
     writer: &mut W,
     service: &mut S,
     asking: Asking<'_>,
-) -> Result<bool, Fault> {
+) -> Result<Ended, Fault> {
     let mut client = Client::new(alloc, service, asking);
-    if !client.say_hello(writer)? {
-        return Ok(false);
+    match client.say_hello(writer)? {
+        Ended::Whole => Ok(ended_by(client.pass_all_on(requests, writer)?)),
+        ended => Ok(ended),
     }
-    client.pass_all_on(requests, writer)
 }
 
-/// Says who the principal is, asks for all that the service has, and writes that: the lines of an opening. Returns
-/// whether they have all come. Where the service refuses the principal or the dump, the refusal is written.
+/// How what was answered to the end, or wasn't, has ended.
+fn ended_by(is_whole: bool) -> Ended {
+    if is_whole { Ended::Whole } else { Ended::Cut }
+}
+
+/// Says who the principal is, asks for all that the service has, and writes that: the lines of an opening. Where the
+/// service refuses the principal or the dump, the refusal is written.
 ///
 /// # Errors
 ///
@@ -55,20 +71,11 @@ pub fn dump<W: Write, S: Read + Write>(
     writer: &mut W,
     service: &mut S,
     asking: Asking<'_>,
-) -> Result<bool, Fault> {
+) -> Result<Ended, Fault> {
     let mut client = Client::new(alloc, service, asking);
-    if !client.say_hello(writer)? {
-        return Ok(false);
-    }
-    let Some(answer) = client.answer(b"{\"dump\":true}\n")? else {
-        return Ok(false);
-    };
-    match lines_behind(&answer) {
-        Some(count) => client.pass_back(writer, count),
-        None => {
-            write_text(writer, &answer)?;
-            Ok(false)
-        }
+    match client.say_hello(writer)? {
+        Ended::Whole => Ok(ended_by(client.pass_dump_back(writer)?)),
+        ended => Ok(ended),
     }
 }
 
@@ -106,17 +113,31 @@ impl<'a, S: Read + Write> Client<'a, S> {
         }
     }
 
-    /// Says who the principal is. Returns whether the service accepts that; a refusal is written.
-    fn say_hello<W: Write>(&mut self, writer: &mut W) -> Result<bool, Fault> {
+    /// Says who the principal is. A refusal is written.
+    fn say_hello<W: Write>(&mut self, writer: &mut W) -> Result<Ended, Fault> {
         let hello = hello_line(self.alloc, self.asking.who)?;
         let Some(answer) = self.answer(&hello)? else {
-            return Ok(false);
+            return Ok(Ended::Cut);
         };
         if is_refusal(&answer) {
             write_text(writer, &answer)?;
-            return Ok(false);
+            return Ok(Ended::Refused);
         }
-        Ok(true)
+        Ok(Ended::Whole)
+    }
+
+    /// Asks for a dump, and writes its lines. Returns whether they have all come. A refusal is written.
+    fn pass_dump_back<W: Write>(&mut self, writer: &mut W) -> Result<bool, Fault> {
+        let Some(answer) = self.answer(b"{\"dump\":true}\n")? else {
+            return Ok(false);
+        };
+        match lines_behind(&answer) {
+            Some(count) => self.pass_back(writer, count),
+            None => {
+                write_text(writer, &answer)?;
+                Ok(false)
+            }
+        }
     }
 
     /// Passes on each line of the requests, to their end. Returns whether all were answered.

@@ -14,4 +14,4 @@ mod client;
 mod requests;
 mod spelled;
 
-pub use client::{Asking, ask, dump};
+pub use client::{Asking, Ended, ask, dump};

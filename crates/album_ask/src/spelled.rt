@@ -197,6 +197,7 @@ fn kind_made(asked: &Value) -> Option<&'static str> {
     match asked.get("do").and_then(Value::as_str) {
         Some("add_picture") => Some("picture"),
         Some("add_album") => Some("album"),
+        Some("add_group") => Some("group"),
         _ => None,
     }
 }

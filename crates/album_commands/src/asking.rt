@@ -2,7 +2,7 @@
 
 use crate::running::{TURNS, port_arg, status};
 use crate::texts::{ASK_ABOUT, ASK_HELP};
-use album_ask::{Asking, ask};
+use album_ask::{Asking, Ended, ask};
 use album_judge::Fault;
 use clap::{Arg, ArgAction, ArgMatches, Command};
 use std::alloc::{AllocError, Global};
@@ -67,15 +67,24 @@ where
             let _ = eprintln!(rt; "album: port {port}: {error}");
             ExitCode::from(1)
         }
-        Ok(mut service) => asked(rt, ask(alloc, requests, writer, &mut service, asking)),
+        Ok(mut service) => {
+            let outcome = ask(alloc, requests, writer, &mut service, asking);
+            asked(rt, asking.who, outcome)
+        }
     }
 }
 
-/// The status of a client whose service has answered all, or hasn't.
-pub(crate) fn asked(rt: &impl Eprint, outcome: Result<bool, Fault>) -> ExitCode {
+/// The status of a client of this principal, whose service has answered all, or hasn't.
+pub(crate) fn asked(rt: &impl Eprint, who: &str, outcome: Result<Ended, Fault>) -> ExitCode {
     match outcome {
-        Ok(true) => ExitCode::SUCCESS,
-        Ok(false) => {
+        Ok(Ended::Whole) => ExitCode::SUCCESS,
+        Ok(Ended::Refused) => {
+            let _ = eprintln!(rt;
+                "album: the service doesn't talk to {who} (a principal is name@users or ANONYMOUS@)"
+            );
+            ExitCode::from(1)
+        }
+        Ok(Ended::Cut) => {
             let _ = eprintln!(rt; "album: the service has not answered to the end");
             ExitCode::from(1)
         }

@@ -47,6 +47,6 @@ where
             let _ = eprintln!(rt; "album: port {port}: {error}");
             ExitCode::from(1)
         }
-        Ok(mut service) => asked(rt, dump(alloc, writer, &mut service, asking)),
+        Ok(mut service) => asked(rt, asking.who, dump(alloc, writer, &mut service, asking)),
     }
 }

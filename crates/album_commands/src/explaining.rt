@@ -139,6 +139,11 @@ fn explain_each<R: Read, W: Write>(
     }
 }
 
+/// All bits of a mask, and of flags, in numbers.
+const ALL_BITS: u32 = 2_032_127;
+
+const ALL_FLAGS: u32 = 127;
+
 /// Prints what the names, or the number, of `mask` or `flags` are.
 pub(crate) fn print_bits<T: Eprint, W: Write>(
     rt: &T,
@@ -157,7 +162,15 @@ pub(crate) fn print_bits<T: Eprint, W: Write>(
         Ok(line) => status(rt, written(writer, &line)),
         Err(Refusal::OutOfMemory) => status(rt, Err(Fault::Memory)),
         Err(why) => {
+            let all = if command == "mask" {
+                ALL_BITS
+            } else {
+                ALL_FLAGS
+            };
             let _ = eprintln!(rt; "error: invalid value '{word}' for '<NAMES|NUMBER>': {why}");
+            let _ = eprintln!(rt;
+                "`album {command} {all}` prints all names; commas stand between names"
+            );
             ExitCode::from(2)
         }
     }
