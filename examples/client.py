@@ -38,7 +38,7 @@ class Client:
         self.lines.write(line.rstrip(b"\n") + b"\n")
         self.lines.flush()
         answer = self.lines.readline()
-        if not answer:
+        if not answer.endswith(b"\n"):  # none at all, or the beginning of one
             raise ConnectionError("the service has closed the connection")
         return answer
 

@@ -1,25 +1,31 @@
-"""The helpers of examples/: the client, the script that writes deliveries, and the drawings of a trace.
+"""The helpers of examples/: the client, an application, the script that writes deliveries, and drawings of a trace.
 
 rows/script/NAME.jsonl is the example NAME with words that settle a client in the place of its deliveries, which have to
 come out as the example has them. rows/drawn has traces, the script that each is of, and its three drawings."""
 import json
 import os
 import pathlib
+import socket
 import subprocess
 import sys
+import threading
 
 from options import ALLOWED, NOTHING_NOTED, READ
-from serving import SECONDS, Service, joined, want, wrong_of
+from serving import SECONDS, Service, free_port, joined, want, wrong_of
 
 ROWS = pathlib.Path(__file__).resolve().parent
 EXAMPLES = ROWS.parent / "examples"
 sys.path.append(str(EXAMPLES))
 
-import client  # noqa: E402 (it is one of the examples)
+import application  # noqa: E402 (it is one of the examples)
+import client  # noqa: E402 (so is it)
 
 SERVED = {"answer": "served", "client": 1, "content": "", "object": "picture/0", "stamp": 0, "title": "Sea"}
 COMMITTED = {"answer": "committed", "client": 2, "stamp": 65538}  # counter 1 of client 2
 BAD_LINE = b'{"name":"BadLine","refused":2}\n'
+HELLO = {"answer": "hello", "client": 2}
+ABORTED = {"answer": "aborted", "client": 2, "stamp": 65538}
+UNSETTLED = {"answer": "unsettled", "client": 2, "name": "Closed", "refused": 21, "stamp": 65538}
 
 
 def ran(name, words, text, program="none"):
@@ -46,6 +52,67 @@ def a_client(program):
         want((1, b"", b"client: BadWho\n"), ran("client.py", [port, "bo"], b""), "the run of nobody")
         service.end(NOTHING_NOTED, [b""])
     want((1, b""), ran("client.py", ["7070"], b"")[:2], "a run with a word too few")
+
+
+def an_application(program):
+    """Over a service of its opening it prints what its section of the page shows. Else it says what is wrong."""
+    section = (EXAMPLES / "README.md").read_text().partition("\n## application.py\n")[2]
+    shown = section.partition("\n```text\n")[2].partition("```\n")[0].encode()
+    status, opening, said = ran("application.py", ["--opening"], b"")
+    want((0, b""), (status, said), "the run for its opening")
+    with Service(program, opening, 5) as service:
+        want((0, shown, b""), ran("application.py", [str(service.port)], b""), "its run")
+        service.end(NOTHING_NOTED, [b""])
+    with Service(program, ALLOWED, 1) as service:
+        said = b"application: amy asked {'do': 'add_album', 'album': 'album/1', 'title': 'Trips'} and was answered " \
+               b"{'answer': 'missing', 'client': 1, 'object': 'album/1'}\n"
+        want((1, b"", said), ran("application.py", [str(service.port)], b""), "its run over another opening")
+        service.end(NOTHING_NOTED, [b""])
+    status, printed, said = ran("application.py", [str(free_port())], b"")
+    want((1, b""), (status, printed), "its run without a service")
+    want(True, said.startswith(b"application: amy has no answer to "), f"that {said!r} says so")
+
+
+def titled(connections):
+    """What comes of the application's title for a picture where one connection after another is answered so, each text
+    as it is, and then closed; and what was said."""
+    said = []
+
+    def serve():
+        for answers in connections:
+            with listener.accept()[0] as connection, connection.makefile("rwb") as lines:
+                for answer in answers:
+                    said.append(json.loads(lines.readline()).get("ask", {"do": "who"})["do"])
+                    lines.write(answer.encode() if isinstance(answer, str) else compact(answer))
+                    lines.flush()
+
+    with socket.create_server(("127.0.0.1", 0)) as listener:
+        threading.Thread(target=serve, daemon=True).start()
+        amy = application.User(listener.getsockname()[1], "amy")
+        try:
+            outcome = application.retitle(amy, SERVED, "Bay")
+        except (RuntimeError, ConnectionError) as error:
+            outcome = str(error)
+    return outcome, " ".join(said)
+
+
+def an_application_out_of_luck(_program):
+    """A title is asked again where it was aborted, and where it has no answer and isn't there; else it isn't."""
+    made, taken = {**SERVED, "stamp": 65538, "title": "Bay"}, {**SERVED, "stamp": 131073, "title": "Cove"}
+    cut = '{"answer":"comm'
+    for name, connections, outcome, said in (
+            ("7 aborted", [[HELLO, *[ABORTED] * 7, COMMITTED]], 65538, "who" + " retitle" * 8),
+            ("8 aborted", [[HELLO, *[ABORTED] * 8]], "amy came too late 8 times to retitle", "who" + " retitle" * 8),
+            ("one lost that isn't made", [[HELLO, ""], [HELLO, SERVED, COMMITTED]], 65538,
+             "who retitle who head retitle"),
+            ("one lost that is made", [[HELLO, ""], [HELLO, made]], 65538, "who retitle who head"),
+            ("one whose answer is cut", [[HELLO, cut], [HELLO, made]], 65538, "who retitle who head"),
+            ("one lost, and another's made", [[HELLO, ""], [HELLO, taken]],
+             "picture/0 was given the title Cove meanwhile", "who retitle who head"),
+            ("one lost, and a head", [[HELLO, ""], [HELLO, cut], [HELLO, made]], 65538,
+             "who retitle who head who head"),
+            ("one unsettled", [[HELLO, UNSETTLED, SERVED, COMMITTED]], 65538, "who retitle head retitle")):
+        want((outcome, said), titled(connections), name)
 
 
 def settled_examples(program):
@@ -111,6 +178,8 @@ def nobody_reads_on(_program):
 
 FACTS = {
     "the client": a_client,
+    "the application": an_application,
+    "an application out of luck": an_application_out_of_luck,
     "a script whose clients are settled": settled_examples,
     "clients that are settled by turns": clients_by_turns,
     "scripts that are refused": scripts_that_are_refused,
