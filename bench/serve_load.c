@@ -1,11 +1,17 @@
 /* Sends requests to 127.0.0.1 over connections, each on a thread of its own, and prints one line: how many were
    answered, in how many seconds, and the microseconds that half of them and that 99 of 100 didn't pass.
 
-   usage: serve_load PORT SECONDS FILE..
+   usage: serve_load [--postgres COUNT] PORT SECONDS FILE..
 
    A FILE is what one connection sends: for each request a line `BYTES PREFIX`, and then so many bytes. A request is
    sent once the one before is answered. An answer is a line, and has to begin with the prefix. The first request of a
-   file comes before the clock starts. A connection ends with its file, or once the seconds are over. */
+   file comes before the clock starts. A connection ends with its file, or once the seconds are over.
+
+   With --postgres an answer is messages, each a letter, the four bytes of its length and the rest, up to the one by
+   which PostgreSQL is ready again. The text of its row has to begin with the prefix; without a row the answer itself
+   has to. The first COUNT requests of a file come before the clock starts. A transaction that fails since another came
+   first is sent again, as PostgreSQL wants it, and all its attempts are timed as one request. */
+#define _GNU_SOURCE
 #include <arpa/inet.h>
 #include <netinet/tcp.h>
 #include <pthread.h>
@@ -18,6 +24,8 @@
 #include <unistd.h>
 
 enum { LONGEST_PREFIX = 64, LONGEST_ANSWER = 1 << 17, PATIENCE = 30 /* seconds for one answer */ };
+enum { READY = 6 /* bytes of the message */, ROW_HEAD = 11 /* bytes before the text of a row of one column */ };
+static const char CAME_TOO_LATE[] = "C40001"; /* the field of an error, with the zero after it */
 
 struct request {
     char prefix[LONGEST_PREFIX];
@@ -35,6 +43,8 @@ struct talker {
 };
 
 static pthread_barrier_t begin;
+static int is_postgres;
+static size_t before_clock = 1;
 
 static void give_up(const char *what) {
     perror(what);
@@ -83,20 +93,61 @@ static int connected(int port) {
     return on;
 }
 
-static void ask(int on, const struct request *request, char *answer) {
+/* Whether an answer is there to its end. (No text has a zero, so none ends as the message does.) */
+static int is_whole(const char *answer, size_t size) {
+    if (is_postgres) return size >= READY && !memcmp(answer + size - READY, "Z\0\0\0\5I", READY);
+    return size > 0 && answer[size - 1] == '\n';
+}
+
+/* Sends the request, and gives the size of its answer. */
+static size_t answered(int on, const struct request *request, char *answer) {
     for (size_t sent = 0; sent < request->size;) {
         ssize_t more = write(on, request->text + sent, request->size - sent);
         if (more <= 0) give_up("write");
         sent += (size_t)more;
     }
     size_t size = 0;
-    while (size == 0 || answer[size - 1] != '\n') {
+    while (!is_whole(answer, size)) {
         ssize_t more = read(on, answer + size, LONGEST_ANSWER - size);
         if (more <= 0) give_up("read");
         size += (size_t)more;
     }
-    if (size < strlen(request->prefix) || memcmp(answer, request->prefix, strlen(request->prefix))) {
-        fprintf(stderr, "%.*s is answered by %.*s", (int)request->size, request->text, (int)size, answer);
+    return size;
+}
+
+/* Where PostgreSQL's answer has a message of this kind; its end, where it has none. */
+static const char *message(char kind, const char *answer, const char *end) {
+    uint32_t size;
+    while (answer + 1 + sizeof size <= end && *answer != kind) {
+        memcpy(&size, answer + 1, sizeof size);
+        answer += 1 + ntohl(size);
+    }
+    return answer < end ? answer : end;
+}
+
+static int begins(const char *text, const char *end, const char *prefix) {
+    return (size_t)(end - text) >= strlen(prefix) && !memcmp(text, prefix, strlen(prefix));
+}
+
+/* Whether the answer is what the request wants. A commit may fail after its row was sent. */
+static int is_wanted(const struct request *request, const char *answer, const char *end) {
+    if (!is_postgres) return begins(answer, end, request->prefix);
+    const char *row = message('D', answer, end);
+    return message('E', answer, end) == end && begins(row < end ? row + ROW_HEAD : answer, end, request->prefix);
+}
+
+static int came_too_late(const char *answer, const char *end) {
+    const char *error = is_postgres ? message('E', answer, end) : end;
+    return error < end && memmem(error, (size_t)(end - error), CAME_TOO_LATE, sizeof CAME_TOO_LATE);
+}
+
+static void ask(int on, const struct request *request, char *answer) {
+    size_t size;
+    do size = answered(on, request, answer);
+    while (came_too_late(answer, answer + size));
+    if (!is_wanted(request, answer, answer + size)) {
+        fprintf(stderr, "%.*s is answered by ", (int)request->size, request->text);
+        fwrite(answer, 1, size, stderr);
         exit(1);
     }
 }
@@ -105,10 +156,10 @@ static void *talk(void *given) {
     struct talker *talker = given;
     char *answer = room(LONGEST_ANSWER, 1);
     int on = connected(talker->port);
-    ask(on, &talker->requests[0], answer);
+    for (size_t n = 0; n < before_clock; n++) ask(on, &talker->requests[n], answer);
     pthread_barrier_wait(&begin);
     talker->began = talker->ended = now();
-    for (size_t n = 1; n < talker->count && talker->ended - talker->began < talker->nanos; n++) {
+    for (size_t n = before_clock; n < talker->count && talker->ended - talker->began < talker->nanos; n++) {
         uint64_t before = now();
         ask(on, &talker->requests[n], answer);
         talker->ended = now();
@@ -143,8 +194,14 @@ static void report(const struct talker *talkers, size_t count) {
 }
 
 int main(int count, char **words) {
+    if (count > 2 && !strcmp(words[1], "--postgres")) {
+        is_postgres = 1;
+        before_clock = (size_t)atol(words[2]);
+        count -= 2;
+        words += 2;
+    }
     if (count < 4) {
-        fprintf(stderr, "usage: serve_load PORT SECONDS FILE..\n");
+        fprintf(stderr, "usage: serve_load [--postgres COUNT] PORT SECONDS FILE..\n");
         return 2;
     }
     size_t files = (size_t)count - 3;
@@ -154,7 +211,7 @@ int main(int count, char **words) {
         talkers[n].port = atoi(words[1]);
         talkers[n].nanos = (uint64_t)(atof(words[2]) * 1e9);
         read_requests(&talkers[n], words[n + 3]);
-        if (talkers[n].count == 0) give_up(words[n + 3]);
+        if (talkers[n].count < before_clock) give_up(words[n + 3]);
     }
     for (size_t n = 0; n < files; n++)
         if (pthread_create(&talkers[n].thread, NULL, talk, &talkers[n])) give_up("thread");

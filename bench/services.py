@@ -7,7 +7,7 @@ import subprocess
 import sys
 import tempfile
 import time
-from typing import NamedTuple
+from typing import Callable, NamedTuple
 
 import pictures
 from measure import ALBUM, HERE, finish, free_port, processor_time
@@ -22,6 +22,16 @@ class Figures(NamedTuple):
     half: float  # microseconds that half of the answers took at most
     most: float  # and 99 of 100
     stolen: float  # percent of the processors' time that the host took
+
+
+class Peer(NamedTuple):
+    """Another server, which is asked the same as the service."""
+    name: str
+    port: int
+    fill: Callable  # puts the store of pictures.py into it, in place of what is there
+    files: Callable  # writes what each connection sends: of a folder, requests and how many connections, the paths
+    asking: Callable  # a connection, as a context: of a request and who asks, the answer without a sign before it
+    words: tuple = ()  # further ones for the program that sends requests
 
 
 def build(folder):
@@ -129,25 +139,35 @@ def fill(port, commands):
         return talk.readline().strip().decode()
 
 
-def split(folder, requests, connections, greeting, spell, sign):
-    """Writes what each connection sends into a file of its own: what it says first, and its share of the requests. A
-    write may be answered `aborted` by a checked store, so of its answer the sign alone is wanted."""
+def redis_peer(port, script):
+    """A Redis that has this script."""
+    @contextlib.contextmanager
+    def asking():
+        with connect(port) as talk:
+            yield lambda request, who: answer_to(talk, request.script(script, who)).removeprefix(b"+")
+
+    return Peer("redis", port, lambda: fill(port, pictures.commands()),
+                lambda folder, requests, connections: redis_files(folder, requests, connections, script), asking)
+
+
+def split(folder, requests, connections, greetings, spell, wanted):
+    """Writes what each connection sends into a file of its own: what it says first, and its share of the requests, each
+    with how its answer has to begin."""
     paths = []
     for n in range(connections):
         who = ASKERS[n % len(ASKERS)]
         paths.append(os.path.join(folder, "requests%d" % n))
         with open(paths[-1], "wb") as file:
-            share = [(sign + (request.answer() if request.verb == "read" else ""), spell(request, who))
-                     for request in requests[n::connections]]
-            for prefix, text in [greeting(who)] + share:
+            share = [(wanted(request), spell(request, who)) for request in requests[n::connections]]
+            for prefix, text in greetings(who) + share:
                 file.write(b"%d %s\n%s" % (len(text), prefix.encode(), text))
     return paths
 
 
-def sent(load, port, seconds, paths):
-    """Sends the requests of the files, and gives the figures of that."""
+def sent(load, port, seconds, paths, words=()):
+    """Sends the requests of the files, and gives the figures of that. `words` are further ones for the program."""
     stolen, passed = processor_time()
-    run = subprocess.run([load, str(port), str(seconds), *paths], stdout=subprocess.PIPE, check=True)
+    run = subprocess.run([load, *words, str(port), str(seconds), *paths], stdout=subprocess.PIPE, check=True)
     stolen_then, passed_then = processor_time()
     count, took, half, most = map(float, run.stdout.split())
     a_second = count / took if took > 0 else 0.0
@@ -155,10 +175,12 @@ def sent(load, port, seconds, paths):
 
 
 def album_files(folder, requests, connections):
-    return split(folder, requests, connections, lambda who: ('{"answer":"hello"', pictures.line({"who": who}).encode()),
-                 lambda request, _: request.talk(), '{"answer":"')
+    """A write may be answered `aborted` by a checked store, so of its answer the sign alone is wanted."""
+    greetings = lambda who: [('{"answer":"hello"', pictures.line({"who": who}).encode())]
+    return split(folder, requests, connections, greetings, lambda request, _: request.talk(),
+                 lambda request: '{"answer":"' + (request.answer() if request.verb == "read" else ""))
 
 
 def redis_files(folder, requests, connections, sha):
-    return split(folder, requests, connections, lambda _: ("+PONG", pictures.command("PING")),
-                 lambda request, who: request.script(sha, who), "+")
+    return split(folder, requests, connections, lambda _: [("+PONG", pictures.command("PING"))],
+                 lambda request, who: request.script(sha, who), lambda request: "+" + request.answer())
