@@ -40,8 +40,11 @@ served_is permit (ask.List album) e given h =
       given_is = sym (same_Some _ _ h);
     }
 served_is permit (ask.GetList object) e given h = sym (same_Some _ _ h)
+served_is permit (ask.Head object) e given h = sym (same_Some _ _ h)
+served_is permit (ask.Children album) e given h = sym (same_Some _ _ h)
 served_is permit (ask.AddPicture album title content) e given h = absurd (none-some _ h)
 served_is permit (ask.AddAlbum album title) e given h = absurd (none-some _ h)
+served_is permit (ask.AddGroup album members) e given h = absurd (none-some _ h)
 served_is permit (ask.Retitle object title) e given h = absurd (none-some _ h)
 served_is permit (ask.Replace object content) e given h = absurd (none-some _ h)
 served_is permit (ask.Delete object) e given h = absurd (none-some _ h)
@@ -56,8 +59,11 @@ pub unserved_writes : (permit : PermitState) (a : Ask) â†’ served_for permit a â
 unserved_writes permit (ask.Read object) h = absurd (none-some _ (sym h))
 unserved_writes permit (ask.List album) h = absurd (none-some _ (sym h))
 unserved_writes permit (ask.GetList object) h = absurd (none-some _ (sym h))
+unserved_writes permit (ask.Head object) h = absurd (none-some _ (sym h))
+unserved_writes permit (ask.Children album) h = absurd (none-some _ (sym h))
 unserved_writes permit (ask.AddPicture album title content) h = refl
 unserved_writes permit (ask.AddAlbum album title) h = refl
+unserved_writes permit (ask.AddGroup album members) h = refl
 unserved_writes permit (ask.Retitle object title) h = refl
 unserved_writes permit (ask.Replace object content) h = refl
 unserved_writes permit (ask.Delete object) h = refl

@@ -60,8 +60,8 @@ are delivered:
   {"deliver":[1,16]}
 
   ask      who is name@users or ANONYMOUS@, client a number from 1 to 65535, and do one of read, list,
-           get_list, add_picture, add_album, retitle, replace, delete, move, set_lists, set_owner,
-           set_members and share, each with fields of its own (docs/FORMATS.md has all)
+           get_list, head, children, add_picture, add_album, add_group, retitle, replace, delete, move,
+           set_lists, set_owner, set_members and share, each with fields of its own (docs/FORMATS.md has all)
   deliver  the number of a message, the first that is sent being 1; or [first, last], at most 10000 of them
   sweep    part and stamp: the partition asks the others for the state of a write that is pending at it
   stop     the number of a client, which stops for good

@@ -37,7 +37,7 @@ use Rattle.album_permits.specs.declared.findings.Finding.TheVariants.{Granted}
 use Rattle.album_grounds.specs.Grounds.{IsOnView, IsKept}
 use Rattle.album_world.specs.Staying.{TakesOut}
 use Rattle.album_world.proofs.AgeLemmas.{pair_in}
-use Rattle.album_world.proofs.ListLemmas.{contains, in_all}
+use Rattle.album_world.proofs.ListLemmas.{contains, in_all, in_nil, within}
 use Rattle.album_world.proofs.ShownLemmas.{IsShownBy, shown_or_missing}
 use Rattle.album_lasting.specs.Staying.{IsOfCheckedService, IsCommittedAs, IsVersion, IsUndoneBetween, Adds}
 use Rattle.album_lasting.specs.Staying.Adds.{Picture, Album, Moves}
@@ -142,7 +142,7 @@ added_there policy me rows t (Moves object to) found kind =
     (added_value (seen rows) me t (Moves object to)))))
   where
     go : (i : ℕ) → kind_of i ≡ 1 → MayWrite (seen rows) t (ask.Move object to) i → is_none (head_of (seen rows i)) ≡ false
-    go i is (New item adding k) = absurd (false≢true adding)
+    go i is (New item k) = in_nil (within [] k)
     go i is (Object other k) = changed_there (permit_on policy me (ask.Move object to) rows) found i k
     go i is (ListOf other item k whose) = let two = list_kind (seen rows other) i whose in absurd (omega (arith, is, two))
 

@@ -142,12 +142,12 @@ module _ (policy : Policy) (c : Cut) (h : IsOfCheckedService policy c) where
       there_is object k = sees object (changed_there p.permit p.effect.granted object k)
 
       item_aged : (item : ℕ) → MayWrite (seen p.permit.view.rows) t p.permit.view.ask item → number_of item ≤ t
-      item_aged item (New new adding k) = let e : number_of item ≡ t = new_number t item k in omega (arith, e)
+      item_aged item (New new k) = let e : number_of item ≡ t = new_number p.permit.view.ask t item k in omega (arith, e)
       item_aged item (Object object k) = (there_is object k).own
       item_aged item (ListOf object other k whose) = (there_is object k).lists item whose
 
       lists_aged : IsWrittenAs (seen p.permit.view.rows) t p.permit.view.ask i v → (number : ℕ) → Contains (list_of v) number → number_of number ≤ t
-      lists_aged (Made adding k own) number l =
+      lists_aged (Made k own) number l =
           let e : number_of number ≡ t = ap number_of (own number l) ∙ number_of-item 2 t (omega arith) in omega (arith, e)
       lists_aged (Rewritten subject r) number l =
           let d : Contains (list_of (seen p.permit.view.rows i)) number = subst (λ (xs : List ℕ). Contains xs number) r.own_list l in

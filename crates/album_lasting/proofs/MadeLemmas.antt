@@ -1,8 +1,8 @@
 -- Each later version is made from an earlier one (`made_from`).
-use Rattle.std.proofs.Common.{◌≡◌, ℕ, zero, suc, ◌<◌, ◌≤◌, Bool, true, false, List, [], ◌∷◌, Contains, Some, is_some, ◌==◌, ◌⊎◌, inl, inr, ⊎_elim, refl, sym, ap, ◌∙◌, subst, arith}
+use Rattle.std.proofs.Common.{◌≡◌, ℕ, zero, suc, ◌<◌, ◌≤◌, Bool, true, false, List, Contains, Some, is_some, ◌==◌, ◌⊎◌, inl, inr, ⊎_elim, refl, sym, ap, ◌∙◌, subst, arith}
 use Rattle.std.proofs.lemmas.Bool.{eqb-true, eqb-false}
 use Rattle.album_eval.specs.declared.policies.Policy.{Policy}
-use Rattle.album_items.specs.ItemIds.{picture, album, list, number_of}
+use Rattle.album_items.specs.ItemIds.{number_of}
 use Rattle.album_items.specs.declared.values.Value.{Value}
 use Rattle.album_items.specs.declared.values.Value.TheVariants.{Missing}
 use Rattle.album_partition.specs.Bases.{IsMadeOn}
@@ -10,6 +10,7 @@ use Rattle.album_partition.specs.Marks.{first_value, version}
 use Rattle.album_partition.specs.declared.marks.Mark.{Mark}
 use Rattle.album_passes.specs.Cuts.{Cut, prefix_for}
 use Rattle.album_passes.specs.Reads.{written_value}
+use Rattle.album_views.specs.Asks.{made_by}
 use Rattle.album_views.specs.ReadSets.{IsNamed}
 use Rattle.album_views.specs.ReadSets.IsNamed.{Subject, ListOf}
 use Rattle.album_views.specs.Seen.{seen}
@@ -27,15 +28,15 @@ use Rattle.album_lasting.proofs.VersionLemmas.{HasPermit, permit_for, version_hi
 module _ (policy : Policy) (c : Cut) (h : IsOfCheckedService policy c) where
   -- what a write doesn't make is in its view
   read_or_made : (i t : ℕ) (v : Value) (p : HasPermit policy c i t v)
-      → IsShownBy p.permit.view.rows i ⊎ Contains (picture t ∷ album t ∷ list t ∷ []) i
+      → IsShownBy p.permit.view.rows i ⊎ Contains (made_by p.permit.view.ask t) i
   read_or_made i t v p = go (written_as p.permit t i v p.effect.written)
     where
       read : (item : ℕ) → IsNamed (seen p.permit.view.rows) p.permit.view.looker p.permit.view.ask item → IsShownBy p.permit.view.rows item
       read item named = shown_read p.permit.view.rows item (p.view.closed item named)
 
       go : IsWrittenAs (seen p.permit.view.rows) t p.permit.view.ask i v
-          → IsShownBy p.permit.view.rows i ⊎ Contains (picture t ∷ album t ∷ list t ∷ []) i
-      go (Made adding new own) = inr new
+          → IsShownBy p.permit.view.rows i ⊎ Contains (made_by p.permit.view.ask t) i
+      go (Made new own) = inr new
       go (Rewritten subject r) = inl (read i (Subject i subject))
       go (Gone object subject asked whose e) = inl (⊎_elim
           (λ (same : object ≡ i). subst (IsShownBy p.permit.view.rows) same (read object (Subject object subject)))
@@ -48,7 +49,7 @@ module _ (policy : Policy) (c : Cut) (h : IsOfCheckedService policy c) where
       → IsVersion c i (stamp_seen p.permit.view.rows i) (seen p.permit.view.rows i)
   shows_version i t v p is = ⊎_elim of_row
       (λ (gone : seen p.permit.view.rows i ≡ Missing). ⊎_elim of_row
-      (λ new. unseen gone (new_number t i new) (stamp_seen p.permit.view.rows i == 0) refl)
+      (λ new. unseen gone (new_number p.permit.view.ask t i new) (stamp_seen p.permit.view.rows i == 0) refl)
       (read_or_made i t v p))
       (shown_or_missing p.permit.view.rows i)
     where

@@ -8,7 +8,7 @@ use Rattle.album_eval.specs.declared.policies.Policy.{Policy}
 use Rattle.album_lists.specs.declared.lists.Ace.{Ace}
 use Rattle.album_lists.specs.declared.whos.Member.{Member}
 use Rattle.album_items.specs.ItemBack.{kind_of-item}
-use Rattle.album_items.specs.ItemIds.{list, kind_of}
+use Rattle.album_items.specs.ItemIds.{list, group, kind_of}
 use Rattle.album_items.specs.Openings.{has_own_value}
 use Rattle.album_items.specs.Values.{is_of, head_of, home_of, list_of, members_of}
 use Rattle.album_items.specs.declared.values.Value.{Value}
@@ -24,7 +24,7 @@ use Rattle.album_views.specs.declared.asks.Ask.{Ask}
 use Rattle.album_views.specs.declared.asks.Ask.TheVariants as ask
 use Rattle.album_views.specs.declared.asks.NewList.{NewList}
 use Rattle.album_permits.specs.Changes.{with_owner, with_members}
-use Rattle.album_permits.specs.Effects.{Write, put, merged, list_dropped, taken_out, effect_of}
+use Rattle.album_permits.specs.Effects.{Write, put, merged, new_head, owners_list, list_dropped, taken_out, effect_of}
 use Rattle.album_permits.specs.Permits.{permit_on}
 use Rattle.album_world.specs.Staying.{HandsOver, SetsList, SetsMembers}
 use Rattle.album_world.proofs.ListLemmas.{in_cases, in_map, in_nil, in_one, within, contains}
@@ -81,6 +81,13 @@ members_set ms (value.Picture x) headed kind = absurd (false≢true kind)
 members_set ms (value.Album x) headed kind = absurd (false≢true kind)
 members_set ms (value.List x) headed kind = absurd (true≢false headed)
 members_set ms (value.Group x) headed kind = refl
+
+members_there : (ms : List Member) (v : Value) → is_none (head_of v) ≡ false → with_members ms v ≢ value.Missing
+members_there ms value.Missing headed e = absurd (true≢false headed)
+members_there ms (value.Picture x) headed e = absurd (cc)
+members_there ms (value.Album x) headed e = absurd (cc)
+members_there ms (value.List x) headed e = absurd (true≢false headed)
+members_there ms (value.Group x) headed e = absurd (cc)
 
 only-list : (entries : List Ace) (number i : ℕ) → Contains (list number ∷ []) i
     → value_in (merged ((list number, value.List entries) ∷ [])) i ≡ Some (value.List entries)
@@ -154,7 +161,24 @@ module _ (policy : Policy) (b o c : Cut) (me : Principal) (h : IsOfCheckedServic
       let right = shown_kind policy c h own on.rows object (λ row k. row_version b o c on.rows row h.sound h.above x on.seen k) in
       let set = members_set members (seen on.rows object) there (subst (λ (n : ℕ). is_of (seen on.rows object) n ≡ true) kind right) in
       ⊎_elim (λ (e : members_of is ≡ members_of v). inl (e ∙ set)) inr
-      (members_stay policy c h object t last v is (record { earlier = inr w; later = version; order = order }) kind)
+      (members_stay policy c h object t last v is (record { earlier = inr w; later = version; order = order }) kind
+      (members_there members (seen on.rows object) there))
+
+  -- a group that is made
+  pub group_lasts : (into last : ℕ) (members : List Member) (is : Value) → IsAcknowledged policy b o me (ask.AddGroup into members) t
+      → IsVersion c (group t) last is → t ≤ last
+      → (members_of is ≡ members) ⊎ IsUndoneBetween policy c (group t) t last (λ permit. SetsMembers (group t) permit.view.ask)
+  group_lasts into last members is on version order =
+      let v : Value = value.Group (record { head = new_head (seen on.rows) me t into; members = members }) in
+      let w = acknowledged (ask.AddGroup into members) on (group t) v
+      (first_kept (group t) v [] ((list t, value.List owners_list) ∷ [])
+      (λ y k same.
+      let three : kind_of y.0 ≡ 3 = ap kind_of same ∙ kind_of-item 3 t (omega arith) in
+      let two : kind_of y.0 ≡ 2 =
+      ap (λ (z : Write). kind_of z.0) (in_one (within ((list t, value.List owners_list) ∷ []) k)) ∙ kind_of-item 2 t (omega arith) in
+      omega (arith, three, two))) in
+      members_stay policy c h (group t) t last v is (record { earlier = inr w; later = version; order = order })
+      (kind_of-item 3 t (omega arith)) (λ e. absurd (cc))
 
   pub list_lasts : (new : NewList) (item last : ℕ) (is : Value) (on : IsAcknowledged policy b o me (ask.SetLists (new ∷ [])) t)
       → Contains (list_of (seen on.rows new.object)) item → IsVersion c item last is → t ≤ last

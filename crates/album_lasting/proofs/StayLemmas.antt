@@ -14,6 +14,7 @@ use Rattle.album_partition.specs.Marks.{first_value}
 use Rattle.album_passes.specs.Cuts.{Cut}
 use Rattle.album_listing.specs.Fields.{title_field, content_field}
 use Rattle.album_views.proofs.Flaws.{no_flaw}
+use Rattle.album_views.specs.Asks.{made_by}
 use Rattle.album_views.specs.Checks.{has_kinds, has_single_objects}
 use Rattle.album_views.specs.Seen.{seen}
 use Rattle.album_views.specs.Views.{IsView}
@@ -28,7 +29,7 @@ use Rattle.album_world.specs.Staying.SetsContent.{Deletes as DeletesFilled}
 use Rattle.album_world.specs.Staying.HandsOver.{Deletes}
 use Rattle.album_world.specs.Staying.SetsList.{Deletes as DeletesHolder}
 use Rattle.album_world.proofs.AgeLemmas.{first_missing, new_number}
-use Rattle.album_world.proofs.ListLemmas.{in_nil, in_one, in_uncons, within}
+use Rattle.album_world.proofs.ListLemmas.{in_nil, in_one, within}
 use Rattle.album_world.proofs.ValueLemmas.{IsRewritten, IsWrittenAs, written_as}
 use Rattle.album_world.proofs.ValueLemmas.IsWrittenAs.{Made, Rewritten, Gone, Listed}
 use Rattle.album_lasting.specs.Staying.{IsOfCheckedService, IsCommittedAs, IsVersion, IsLaterVersion, IsWriteOf, IsMadeFrom, IsUndoneBetween}
@@ -55,19 +56,6 @@ deleted_kind object kinds =
     only : (b : Bool) → (b || false) ≡ true → b ≡ true
     only true e = refl
     only false e = e
-
--- what is made is no group
-new_kind : (stamp i : ℕ) → Contains (picture stamp ∷ album stamp ∷ list stamp ∷ []) i → kind_of i ≡ 3 → ⊥
-new_kind stamp i c group_is = ⊎_elim
-    (λ (e : i ≡ picture stamp). let k : kind_of i ≡ 0 = ap kind_of e ∙ kind_of-item 0 stamp (omega arith) in
-    omega (arith, k, group_is))
-    (λ k. ⊎_elim
-    (λ (e : i ≡ album stamp). let k : kind_of i ≡ 1 = ap kind_of e ∙ kind_of-item 1 stamp (omega arith) in
-    omega (arith, k, group_is))
-    (λ l. let k : kind_of i ≡ 2 = ap kind_of (in_one l) ∙ kind_of-item 2 stamp (omega arith) in
-    omega (arith, k, group_is))
-    (in_uncons k))
-    (in_uncons (within (picture stamp ∷ album stamp ∷ list stamp ∷ []) c))
 
 module _ (policy : Policy) (c : Cut) (h : IsOfCheckedService policy c) where
   -- ---- what is kept from one version to the next
@@ -147,9 +135,9 @@ module _ (policy : Policy) (c : Cut) (h : IsOfCheckedService policy c) where
 
   -- what has a version is not made anew at a greater stamp, unless that is the opening's, and missing
   not_made : {P : Type 0} (i first t : ℕ) (was v : Value) (permit : PermitState) → IsVersion c i first was → IsWriteOf policy c i t v permit → first < t
-      → Contains (picture t ∷ album t ∷ list t ∷ []) i → (first ≡ 0 → was ≡ value.Missing → ⊥) → P
+      → Contains (made_by permit.view.ask t) i → (first ≡ 0 → was ≡ value.Missing → ⊥) → P
   not_made i first t was v permit from w less new there =
-      let number : number_of i ≡ t = new_number t i new in
+      let number : number_of i ≡ t = new_number permit.view.ask t i new in
       let high : h.above.greatest < t = version_high c i t v h.sound h.above w.committed.is in
       absurd (⊎_elim
       (λ (f : (first ≡ 0) × (was ≡ first_value c.opening i)).
@@ -168,7 +156,7 @@ module _ (policy : Policy) (c : Cut) (h : IsOfCheckedService policy c) where
         keep (λ v. Contains (children_of v) child) (λ permit. TakesOut child permit.view.ask) i first last was is after each there
       where
         each : KeepsOrDoes (λ v. Contains (children_of v) child) (λ permit. TakesOut child permit.view.ask) i first
-        each permit t v less w (Made adding new own) p = not_made i first t was v permit after.earlier w less new
+        each permit t v less w (Made new own) p = not_made i first t was v permit after.earlier w less new
             (λ zero e. in_nil (within [] (subst (λ (x : Value). Contains (children_of x) child) e there)))
         each permit t v less w (Rewritten subject r) p = r.children child p
         each permit t v less w (Gone object subject asked whose e) p =
@@ -184,7 +172,7 @@ module _ (policy : Policy) (c : Cut) (h : IsOfCheckedService policy c) where
         keep (λ v. F v ≡ x) (λ permit. Does permit.view.ask) i first last was is after each there
       where
         each : KeepsOrDoes (λ v. F v ≡ x) (λ permit. Does permit.view.ask) i first
-        each permit t v less w (Made adding new own) p =
+        each permit t v less w (Made new own) p =
             not_made i first t was v permit after.earlier w less new (λ zero e. had (sym (ap F e) ∙ there))
         each permit t v less w (Rewritten subject r) p =
             ⊎_elim (λ e. inl (e ∙ p)) inr (rewrites (seen permit.view.rows) t permit.view.ask v r)
@@ -201,7 +189,7 @@ module _ (policy : Policy) (c : Cut) (h : IsOfCheckedService policy c) where
         keep (λ v. v ≡ value.List entries) (λ permit. SetsList (seen permit.view.rows) i permit.view.ask) i first last was is after each there
       where
         each : KeepsOrDoes (λ v. v ≡ value.List entries) (λ permit. SetsList (seen permit.view.rows) i permit.view.ask) i first
-        each permit t v less w (Made adding new own) p = not_made i first t was v permit after.earlier w less new
+        each permit t v less w (Made new own) p = not_made i first t was v permit after.earlier w less new
             (λ zero e. let other : value.Missing ≡ value.List entries = sym e ∙ there in cc)
         each permit t v less w (Rewritten subject r) p = inl (r.entries entries p)
         each permit t v less w (Gone object subject asked whose e) p = ⊎_elim
@@ -211,12 +199,12 @@ module _ (policy : Policy) (c : Cut) (h : IsOfCheckedService policy c) where
             whose
         each permit t v less w (Listed object subject whose sets others e) p = inr sets
 
-    pub members_stay : kind_of i ≡ 3 → (members_of is ≡ members_of was) ⊎ IsUndoneBetween policy c i first last (λ permit. SetsMembers i permit.view.ask)
-    members_stay kind =
+    pub members_stay : kind_of i ≡ 3 → was ≢ value.Missing → (members_of is ≡ members_of was) ⊎ IsUndoneBetween policy c i first last (λ permit. SetsMembers i permit.view.ask)
+    members_stay kind there =
         keep (λ v. members_of v ≡ members_of was) (λ permit. SetsMembers i permit.view.ask) i first last was is after each refl
       where
         each : KeepsOrDoes (λ v. members_of v ≡ members_of was) (λ permit. SetsMembers i permit.view.ask) i first
-        each permit t v less w (Made adding new own) p = absurd (new_kind t i new kind)
+        each permit t v less w (Made new own) p = not_made i first t was v permit after.earlier w less new (λ zero e. there e)
         each permit t v less w (Rewritten subject r) p = ⊎_elim (λ e. inl (e ∙ p)) inr r.group
         each permit t v less w (Gone object subject asked whose e) p =
             not_gone 3 i t v permit object kind (λ q. omega (arith, q)) (λ q. omega (arith, q)) w asked whose
@@ -229,7 +217,7 @@ module _ (policy : Policy) (c : Cut) (h : IsOfCheckedService policy c) where
         (keep (λ v. v ≡ value.Missing) (λ permit. ⊥) i first last was is after each there)
       where
         each : KeepsOrDoes (λ v. v ≡ value.Missing) (λ permit. ⊥) i first
-        each permit t v less w (Made adding new own) p = not_made i first t was v permit after.earlier w less new (λ zero e. some zero)
+        each permit t v less w (Made new own) p = not_made i first t was v permit after.earlier w less new (λ zero e. some zero)
         each permit t v less w (Rewritten subject r) p = inl (r.gone p)
         each permit t v less w (Gone object subject asked whose e) p = inl e
         each permit t v less w (Listed object subject whose sets entries e) p =
@@ -279,7 +267,7 @@ lists_stay policy c number first last was is entries h after =
     list_stays policy c h (list number) first last was is after entries (kind_of-item 2 number (omega arith))
 
 pub groups_stay : (policy : Policy) (c : Cut) (number first last : ℕ) (was is : Value) → IsOfCheckedService policy c
-    → IsLaterVersion c (group number) first last was is
+    → IsLaterVersion c (group number) first last was is → was ≢ value.Missing
     → (members_of is ≡ members_of was) ⊎ IsUndoneBetween policy c (group number) first last (λ permit. SetsMembers (group number) permit.view.ask)
 groups_stay policy c number first last was is h after =
     members_stay policy c h (group number) first last was is after (kind_of-item 3 number (omega arith))

@@ -127,6 +127,7 @@ pub fn nothing_is_undone_unasked()
     ensures members { (policy : Policy) (cut : Cut) (number first last : ℕ) (was is : Value)
         → IsOfCheckedService policy cut
         → IsLaterVersion cut (group number) first last was is
+        → was ≢ value.Missing
         → (members_of is ≡ members_of was)
         ⊎ IsUndoneBetween policy cut (group number) first last
         (λ permit. SetsMembers (group number) permit.view.ask) }
@@ -159,8 +160,8 @@ pub fn acknowledged_additions_stay()
 
 /// A law: what an acknowledged request sets stays, in a service that is checked. A deletion is undone by no request. An
 /// owner with a head group stays until a request sets one or deletes the object. The members of a group stay until a
-/// request sets them, where the opening gives each item a value of its kind. A list that was set alone, of an object as
-/// the request's view names it, stays until a request sets it or deletes its object.
+/// request sets them, where the opening gives each item a value of its kind; so do those of a group that is made. A list
+/// that was set alone, of an object as the request's view names it, stays until a request sets it or deletes its object.
 pub fn acknowledged_settings_stay()
     ensures deletion { (policy : Policy) (begun answered cut : Cut) (principal : Principal)
         (stamp object last : ℕ) (is : Value)
@@ -192,6 +193,17 @@ pub fn acknowledged_settings_stay()
         → stamp ≤ last
         → (members_of is ≡ members)
         ⊎ IsUndoneBetween policy cut group stamp last (λ permit. SetsMembers group permit.view.ask) }
+    ensures group { (policy : Policy) (begun answered cut : Cut) (principal : Principal)
+        (stamp into last : ℕ) (members : List Member) (is : Value)
+        → IsOfCheckedService policy cut
+        → 1 ≤ cut.parts
+        → Extends answered cut
+        → IsAcknowledged policy begun answered principal (request.AddGroup into members) stamp
+        → IsVersion cut (group stamp) last is
+        → stamp ≤ last
+        → (members_of is ≡ members)
+        ⊎ IsUndoneBetween policy cut (group stamp) stamp last
+        (λ permit. SetsMembers (group stamp) permit.view.ask) }
     ensures list { (policy : Policy) (begun answered cut : Cut) (principal : Principal)
         (stamp item last : ℕ) (new : NewList) (is : Value)
         → IsOfCheckedService policy cut

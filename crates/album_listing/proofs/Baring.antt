@@ -190,8 +190,11 @@ subjects-back lookup (ask.List album) item c =
     Contains-append_left (album ∷ []) (children_of (lookup album)) item
     (subst (λ (xs : List ℕ). Contains (album ∷ xs) item) (children-bare (lookup album)) c)
 subjects-back lookup (ask.GetList object) item c = c
+subjects-back lookup (ask.Head object) item c = c
+subjects-back lookup (ask.Children album) item c = c
 subjects-back lookup (ask.AddPicture album title content) item c = c
 subjects-back lookup (ask.AddAlbum album title) item c = c
+subjects-back lookup (ask.AddGroup album members) item c = c
 subjects-back lookup (ask.Retitle object title) item c = c
 subjects-back lookup (ask.Replace object content) item c = c
 subjects-back lookup (ask.Delete object) item c =

@@ -112,8 +112,11 @@ needs-on : (lookup : ℕ → Value) (asked : Ask) → AllOn (IsOn (subjects_of l
 needs-on lookup (ask.Read object) = ((first-of object [], tt), tt)
 needs-on lookup (ask.List album) = ((first-of album (children_of (lookup album)), tt), tt)
 needs-on lookup (ask.GetList object) = ((first-of object [], tt), tt)
+needs-on lookup (ask.Head object) = ((first-of object [], tt), tt)
+needs-on lookup (ask.Children album) = ((first-of album [], tt), tt)
 needs-on lookup (ask.AddPicture album title content) = ((first-of album [], tt), tt)
 needs-on lookup (ask.AddAlbum album title) = ((first-of album [], tt), tt)
+needs-on lookup (ask.AddGroup album members) = ((first-of album [], tt), tt)
 needs-on lookup (ask.Retitle object title) = ((first-of object [], tt), tt)
 needs-on lookup (ask.Replace object content) = ((first-of object [], tt), tt)
 needs-on lookup (ask.Delete object) =
@@ -184,10 +187,15 @@ needs-go :
 needs-go policy me one i (ask.Read object) = all-on _ (needs_of (seen one) (ask.Read object)) (λ o m. for-more policy me one i (ask.Read object) o m refl)
 needs-go policy me one i (ask.List album) = all-on _ (needs_of (seen one) (ask.List album)) (λ o m. for-more policy me one i (ask.List album) o m refl)
 needs-go policy me one i (ask.GetList object) = ((for-lists policy me one i (ask.GetList object) object READ_ACL refl, tt), tt)
+needs-go policy me one i (ask.Head object) =
+    all-on _ (needs_of (seen one) (ask.Head object)) (λ o m. for-more policy me one i (ask.Head object) o m refl)
+needs-go policy me one i (ask.Children album) =
+    all-on _ (needs_of (seen one) (ask.Children album)) (λ o m. for-more policy me one i (ask.Children album) o m refl)
 needs-go policy me one i (ask.AddPicture album title content) =
     all-on _ (needs_of (seen one) (ask.AddPicture album title content)) (λ o m. for-more policy me one i (ask.AddPicture album title content) o m refl)
 needs-go policy me one i (ask.AddAlbum album title) =
     all-on _ (needs_of (seen one) (ask.AddAlbum album title)) (λ o m. for-more policy me one i (ask.AddAlbum album title) o m refl)
+needs-go policy me one i (ask.AddGroup album members) = ((for-lists policy me one i (ask.AddGroup album members) album WRITE_ACL refl, tt), tt)
 needs-go policy me one i (ask.Retitle object title) =
     all-on _ (needs_of (seen one) (ask.Retitle object title)) (λ o m. for-more policy me one i (ask.Retitle object title) o m refl)
 needs-go policy me one i (ask.Replace object content) =
@@ -258,8 +266,11 @@ module _ (looker : Option Principal) (asked : Ask) (one other : List ReadVersion
   needs-alike (ask.Read object) same = refl
   needs-alike (ask.List album) same = refl
   needs-alike (ask.GetList object) same = refl
+  needs-alike (ask.Head object) same = refl
+  needs-alike (ask.Children album) same = refl
   needs-alike (ask.AddPicture album title content) same = refl
   needs-alike (ask.AddAlbum album title) same = refl
+  needs-alike (ask.AddGroup album members) same = refl
   needs-alike (ask.Retitle object title) same = refl
   needs-alike (ask.Replace object content) same = refl
   needs-alike (ask.Delete object) same =

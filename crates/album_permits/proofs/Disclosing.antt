@@ -2,7 +2,7 @@
 -- for a principal it is granted and served the same (`granted-alike`, `served-alike`). For the laws
 -- `secrets_decide_nothing` and `answers_disclose_nothing`: what is found on a basis is what is found on it when it is
 -- bared (`ruling-bare`, `notes-bare`).
-use Rattle.std.proofs.Common.{◌≡◌, ℕ, List, [], ◌∷◌, Option, is_none, is_some, map, find, option_map, option_to_list, refl, sym, ap, ◌∙◌, if◌then◌else◌}
+use Rattle.std.proofs.Common.{◌≡◌, ℕ, List, [], ◌∷◌, Option, Some, None, length, is_none, is_some, map, find, option_map, option_to_list, refl, sym, ap, ◌∙◌, if◌then◌else◌}
 use Rattle.std.specs.List.{flat_map, filter_map}
 use Rattle.std.specs.Option.{option_map_or}
 use Rattle.album_eval.specs.Audit.{audited}
@@ -13,6 +13,7 @@ use Rattle.album_items.specs.ItemIds.{list}
 use Rattle.album_items.specs.Values.{children_of}
 use Rattle.album_items.specs.declared.values.Head.{Head}
 use Rattle.album_items.specs.declared.values.Value.{Value}
+use Rattle.album_items.specs.declared.values.Value.TheVariants as value
 use Rattle.album_reader.specs.Answers.{ReadVersion}
 use Rattle.album_views.specs.ReadSets.{looker_of}
 use Rattle.album_views.specs.ReadSets.IsNamed.{Subject}
@@ -23,7 +24,8 @@ use Rattle.album_listing.specs.Agreement.{AgreeOn}
 use Rattle.album_listing.specs.Basis.{Basis, IsBasis}
 use Rattle.album_listing.specs.Disclosure.{bare, AreRuledAlike, AreAlikeFor}
 use Rattle.album_listing.specs.GroupsFound.{basis_on}
-use Rattle.album_listing.specs.Masks.{READ_DATA, LIST_DIRECTORY, READ_ACL, DELETE, DELETE_CHILD, ADD_FILE}
+use Rattle.album_listing.specs.Fields.{title_field}
+use Rattle.album_listing.specs.Masks.{READ_DATA, LIST_DIRECTORY, READ_ATTRIBUTES, READ_ACL, DELETE, DELETE_CHILD, ADD_FILE}
 use Rattle.album_listing.specs.Reasons.{on, case_on, with_verdict, is_grant}
 use Rattle.album_listing.specs.ViewLookups.{stamp_seen, stamp_named, list_named, entries_named}
 use Rattle.album_listing.specs.declared.reasons.Alternative.{Alternative}
@@ -31,12 +33,15 @@ use Rattle.album_listing.specs.declared.reasons.Reason.{Reason}
 use Rattle.album_listing.proofs.Baring.{head-bare, groupless-bare, home-bare, entries-bare, bared, seen-bared, subjects-back, agree-bared, basis-bared, bare_basis, made-bared, seen-same, rows-alike}
 use Rattle.album_listing.proofs.GroupsFoundLemmas.{basis-based}
 use Rattle.album_listing.proofs.Judging.{first-of}
-use Rattle.album_listing.proofs.Looking.{made, basis-made}
+use Rattle.album_listing.proofs.Looking.{made, basis-made, seen-alike}
+use Rattle.album_permits.specs.Attributes.{attributes_of}
 use Rattle.album_permits.specs.Findings.{missing_in, reasons_of, found_by, need_found, and_then_found, needs_found, ruling_of}
 use Rattle.album_permits.specs.Needs.{just, needs_of}
 use Rattle.album_permits.specs.Notes.{note_by, notes_for, checked, need_notes, and_then_noted, needs_noted, notes_of}
 use Rattle.album_permits.specs.Permits.{permit_on, IsPermit}
 use Rattle.album_permits.specs.Serving.{read_of, IsServed}
+use Rattle.album_permits.specs.declared.attributes.Attributes.{Attributes}
+use Rattle.album_permits.specs.declared.attributes.Attributes.TheVariants as attributes
 use Rattle.album_permits.specs.declared.serving.Served.{Served}
 use Rattle.album_permits.specs.declared.serving.Served.TheVariants as served
 use Rattle.album_permits.proofs.Agreeing.{ruling-alike, notes-alike}
@@ -49,8 +54,11 @@ needs-bare : (lookup : ℕ → Value) (asked : Ask) → needs_of (λ i. bare (lo
 needs-bare lookup (ask.Read object) = refl
 needs-bare lookup (ask.List album) = refl
 needs-bare lookup (ask.GetList object) = refl
+needs-bare lookup (ask.Head object) = refl
+needs-bare lookup (ask.Children album) = refl
 needs-bare lookup (ask.AddPicture album title content) = refl
 needs-bare lookup (ask.AddAlbum album title) = refl
+needs-bare lookup (ask.AddGroup album members) = refl
 needs-bare lookup (ask.Retitle object title) = refl
 needs-bare lookup (ask.Replace object content) = refl
 needs-bare lookup (ask.Delete object) =
@@ -186,6 +194,29 @@ list-bared rows item =
     ap (λ (lookup : ℕ → Value). list_named lookup item) (λ k i. seen-bared rows i k)
     ∙ ap (λ (o : Option Head). option_map_or (λ (head : Head). list head.list) o item) (head-bare (seen rows item))
 
+-- the attributes of a value, by what a ruling looks at in it, its title, and how many children it has
+abbrev rebuilt : Value → Option (List ℕ) → ℕ → Attributes
+rebuilt value.Missing title count = attributes.Nothing
+rebuilt (value.Picture x) None count = attributes.Nothing
+rebuilt (value.Picture x) (Some title) count = attributes.Picture x.head title x.home
+rebuilt (value.Album x) None count = attributes.Nothing
+rebuilt (value.Album x) (Some title) count = attributes.Album x.head title x.home count
+rebuilt (value.List x) title count = attributes.Nothing
+rebuilt (value.Group x) title count = attributes.Group x.head (length x.members)
+
+built : (v : Value) → attributes_of v ≡ rebuilt (bare v) (title_field v) (length (children_of v))
+built value.Missing = refl
+built (value.Picture x) = refl
+built (value.Album x) = refl
+built (value.List x) = refl
+built (value.Group x) = refl
+
+attributes-same :
+    (v w : Value) → bare v ≡ bare w → title_field v ≡ title_field w → length (children_of v) ≡ length (children_of w)
+    → attributes_of v ≡ attributes_of w
+attributes-same v w bares titles counts =
+    built v ∙ (λ k. rebuilt (bares k) (titles k) (counts k)) ∙ sym (built w)
+
 pub served-alike :
     (policy : Policy) (me : Principal) (asked : Ask) (one other : List ReadVersion) (given more : Served)
     → AreAlikeFor policy me asked one other → IsPermit (permit_on policy me asked one)
@@ -227,8 +258,33 @@ served-alike policy me (ask.GetList object) one other given more alike kept l m 
     object (first-of object [])
     ∙ entries-bared other object)
     ∙ sym m
+served-alike policy me (ask.Head object) one other given more alike kept l m =
+    let granted = (only-met (basis_on policy me one) object READ_ATTRIBUTES
+    (needs-met (permit_on policy me (ask.Head object) one) kept)).1 in
+    let named = Subject object (first-of object []) in
+    let headed = alike.headed object refl granted in
+    let bare_same : bare (seen one object) ≡ bare (seen other object) =
+    sym (seen-bared one object)
+    ∙ seen-alike (looker_of policy me) (ask.Head object) (bared one) (bared other)
+    (agree (looker_of policy me) (ask.Head object) one other alike.ruled) object named
+    ∙ seen-bared other object in
+    l
+    ∙ ap (λ (s : ℕ). served.Head object s (attributes_of (seen one object))) headed.0
+    ∙ ap (served.Head object (stamp_seen other object))
+    (attributes-same (seen one object) (seen other object) bare_same
+    (alike.titled object (Subject object (first-of object [])) granted) headed.1)
+    ∙ sym m
+served-alike policy me (ask.Children album) one other given more alike kept l m =
+    let granted = (only-met (basis_on policy me one) album LIST_DIRECTORY
+    (needs-met (permit_on policy me (ask.Children album) one) kept)).1 in
+    let same = alike.read album (Subject album (first-of album [])) granted in
+    l
+    ∙ ap (λ (o : Option (ℕ × Value)). served.Children album (option_map_or (λ version. version.0) o 0) (children_of (seen one album))) same
+    ∙ ap (λ (v : Value). served.Children album (stamp_seen other album) (children_of v)) (seen-same one other album same)
+    ∙ sym m
 served-alike policy me (ask.AddPicture into title content) one other given more alike kept l m = absurd l
 served-alike policy me (ask.AddAlbum into title) one other given more alike kept l m = absurd l
+served-alike policy me (ask.AddGroup into members) one other given more alike kept l m = absurd l
 served-alike policy me (ask.Retitle object title) one other given more alike kept l m = absurd l
 served-alike policy me (ask.Replace object content) one other given more alike kept l m = absurd l
 served-alike policy me (ask.Delete object) one other given more alike kept l m = absurd l

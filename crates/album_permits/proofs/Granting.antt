@@ -1,7 +1,7 @@
 -- What a permit writes of what it does not make is a granted change (`effect-granted`), and what it is served is granted
 -- (`picture-granted`, `group-granted`, `rows-granted`, `entries-granted`), for the laws `what_changes_is_granted` and
 -- `what_is_served_is_granted`.
-use Rattle.std.proofs.Common.{◌≡◌, ◌⊎◌, ◌==◌, ◌++◌, ◌<◌, ◌&&◌, ◌||◌, ℕ, zero, suc, List, [], ◌∷◌, Bool, true, false, not, Some, Contains, IsTrue, map, inl, inr, refl, sym, ap, subst, ◌∙◌, arith}
+use Rattle.std.proofs.Common.{◌≡◌, ◌⊎◌, ◌==◌, ◌++◌, ◌<◌, ◌&&◌, ◌||◌, ℕ, zero, suc, List, [], ◌∷◌, length, Bool, true, false, not, Some, Contains, IsTrue, map, inl, inr, refl, sym, ap, subst, ◌∙◌, arith}
 use Rattle.std.specs.List.{list_any, list_all, flat_map, slice_index_or}
 use Rattle.std.proofs.lemmas.Bool.{and_parts, or_left, not-true, both_ways, eqb-true}
 use Rattle.std.proofs.lemmas.List.Folds.{list_all-append}
@@ -11,11 +11,11 @@ use Rattle.album_lists.specs.declared.lists.Ace.{Ace}
 use Rattle.album_lists.specs.declared.whos.Member.{Member}
 use Rattle.album_items.specs.ItemBack.{kind_of-item}
 use Rattle.album_items.specs.ItemIds.{picture, album, list, kind_of, number_of}
-use Rattle.album_items.specs.Values.{home_of, list_of, members_of}
+use Rattle.album_items.specs.Values.{home_of, children_of, list_of, members_of}
 use Rattle.album_items.specs.declared.values.Value.{Value}
 use Rattle.album_items.specs.declared.values.Value.TheVariants as value
 use Rattle.album_views.proofs.Flaws.{no_flaw}
-use Rattle.album_views.specs.Asks.{is_adding}
+use Rattle.album_views.specs.Asks.{made_by}
 use Rattle.album_views.specs.Checks.{has_kinds, has_single_objects}
 use Rattle.album_views.specs.Seen.{seen}
 use Rattle.album_views.specs.declared.asks.Ask.{Ask}
@@ -24,14 +24,15 @@ use Rattle.album_views.specs.declared.asks.NewList.{NewList}
 use Rattle.album_views.specs.declared.asks.NewMembership.{NewMembership}
 use Rattle.album_listing.specs.Basis.{Basis}
 use Rattle.album_listing.specs.GroupsFound.{basis_on}
-use Rattle.album_listing.specs.Masks.{READ_DATA, WRITE_DATA, LIST_DIRECTORY, ADD_FILE, ADD_SUBDIRECTORY, DELETE_CHILD, WRITE_ATTRIBUTES, DELETE, READ_ACL, WRITE_ACL, WRITE_OWNER}
+use Rattle.album_listing.specs.Masks.{READ_DATA, WRITE_DATA, LIST_DIRECTORY, ADD_FILE, ADD_SUBDIRECTORY, DELETE_CHILD, READ_ATTRIBUTES, WRITE_ATTRIBUTES, DELETE, READ_ACL, WRITE_ACL, WRITE_OWNER}
 use Rattle.album_listing.specs.Reasons.{on, is_granted_on}
 use Rattle.album_listing.specs.ViewLookups.{stamp_seen, stamp_named, list_named, entries_named}
 use Rattle.album_listing.specs.Fields.{title_field, content_field}
 use Rattle.album_listing.specs.declared.reasons.Alternative.{Alternative}
 use Rattle.album_listing.specs.declared.rows.Row.{Row}
 use Rattle.album_listing.proofs.GroupsFoundLemmas.{basis-based}
-use Rattle.album_permits.specs.Changes.{with_title, with_content, with_home, with_owner, with_members, without_child, with_child}
+use Rattle.album_permits.specs.Attributes.{attributes_of}
+use Rattle.album_permits.specs.Changes.{with_title, with_content, with_home, with_owner, with_members, with_children, without_child, with_child}
 use Rattle.album_permits.specs.Effects.{Write, list_dropped, taken_out, list_written, members_written, written, effect_of}
 use Rattle.album_permits.specs.Findings.{is_missing}
 use Rattle.album_permits.specs.Meaning.{is_need_met, has_needs_met}
@@ -39,6 +40,8 @@ use Rattle.album_permits.specs.Needs.{just, deletion}
 use Rattle.album_permits.specs.Permits.{PermitState, IsPermit}
 use Rattle.album_permits.specs.Rights.{is_granted_to, may_delete, IsNew, IsRewritten, IsGrantedChange}
 use Rattle.album_permits.specs.Serving.{read_of, IsServed, IsServedFor}
+use Rattle.album_permits.specs.declared.attributes.Attributes.{Attributes}
+use Rattle.album_permits.specs.declared.attributes.Attributes.TheVariants as attributes
 use Rattle.album_permits.specs.declared.serving.Served.TheVariants as served
 use Rattle.album_permits.proofs.Agreeing.{ruling-alike}
 use Rattle.album_permits.proofs.Changing.{IsHeaded, MayGain, MayLose, granted-change, titled, refilled, remembered, reowned, rehomed, with-child, without-child}
@@ -175,7 +178,7 @@ module _ (permit : PermitState) (stamp : ℕ) where
   -- or a write of something new, by an ask that makes it
   abbrev IsRight : Ask → Write → Type 0
   IsRight asked write =
-      (IsTrue (is_adding asked) × Contains (picture stamp ∷ album stamp ∷ list stamp ∷ []) write.0) ⊎ IsGranted write
+      Contains (made_by asked stamp) write.0 ⊎ IsGranted write
 
   right : (asked : Ask) (writes : List Write) → Each IsGranted writes → Each (IsRight asked) writes
   right asked [] all = tt
@@ -287,11 +290,13 @@ module _ (permit : PermitState) (stamp : ℕ) where
   written-right me (ask.Read object) met kinds = tt
   written-right me (ask.List object) met kinds = tt
   written-right me (ask.GetList object) met kinds = tt
+  written-right me (ask.Head object) met kinds = tt
+  written-right me (ask.Children album) met kinds = tt
   written-right me (ask.AddPicture into title content) met kinds =
       let granted = only-met (basis_for permit) into ADD_FILE met in (
-        inl (refl, (0, omega arith, refl)),
+        inl (0, omega arith, refl),
         (
-          inl (refl, (2, omega arith, refl)),
+          inl (1, omega arith, refl),
           (
             inr (gains (picture stamp) into granted.0 (inl (kind_of-item 0 stamp (omega arith), granted.1))),
             tt,
@@ -301,12 +306,14 @@ module _ (permit : PermitState) (stamp : ℕ) where
   written-right me (ask.AddAlbum into title) met kinds =
       let granted = only-met (basis_for permit) into ADD_SUBDIRECTORY met in
       let other : kind_of (album stamp) ≡ 0 → ⊥ = λ e. omega (arith, e, kind_of-item 1 stamp (omega arith)) in (
-        inl (refl, (1, omega arith, refl)),
+        inl (0, omega arith, refl),
         (
-          inl (refl, (2, omega arith, refl)),
+          inl (1, omega arith, refl),
           (inr (gains (album stamp) into granted.0 (inr (other, granted.1))), tt),
         ),
       )
+  written-right me (ask.AddGroup into members) met kinds =
+      (inl (0, omega arith, refl), (inl (1, omega arith, refl), tt))
   written-right me (ask.Retitle object title) met kinds =
       let granted = only-met (basis_for permit) object WRITE_ATTRIBUTES met in (
         inr (granted-change permit object (shown object) (with_title title (shown object))
@@ -423,8 +430,11 @@ module _ (permit : PermitState) where
   picture-for object stamp title content (ask.List album) met l =
       let e = l.given_is in absurd (let f : served.Picture object stamp title content ≡ served.Listed album (stamp_seen permit.view.rows album) l.rows = e in cc)
   picture-for object stamp title content (ask.GetList other) met l = absurd (cc)
+  picture-for object stamp title content (ask.Head other) met l = absurd (cc)
+  picture-for object stamp title content (ask.Children other) met l = absurd (cc)
   picture-for object stamp title content (ask.AddPicture into t k) met l = absurd l
   picture-for object stamp title content (ask.AddAlbum into t) met l = absurd l
+  picture-for object stamp title content (ask.AddGroup into more) met l = absurd l
   picture-for object stamp title content (ask.Retitle other t) met l = absurd l
   picture-for object stamp title content (ask.Replace other k) met l = absurd l
   picture-for object stamp title content (ask.Delete other) met l = absurd l
@@ -467,8 +477,11 @@ module _ (permit : PermitState) where
   group-for object stamp members (ask.List album) met l =
       let e = l.given_is in absurd (let f : served.Group object stamp members ≡ served.Listed album (stamp_seen permit.view.rows album) l.rows = e in cc)
   group-for object stamp members (ask.GetList other) met l = absurd (cc)
+  group-for object stamp members (ask.Head other) met l = absurd (cc)
+  group-for object stamp members (ask.Children other) met l = absurd (cc)
   group-for object stamp members (ask.AddPicture into t k) met l = absurd l
   group-for object stamp members (ask.AddAlbum into t) met l = absurd l
+  group-for object stamp members (ask.AddGroup into more) met l = absurd l
   group-for object stamp members (ask.Retitle other t) met l = absurd l
   group-for object stamp members (ask.Replace other k) met l = absurd l
   group-for object stamp members (ask.Delete other) met l = absurd l
@@ -508,8 +521,11 @@ module _ (permit : PermitState) where
       subst (λ (i : ℕ). is_granted_to permit i LIST_DIRECTORY ≡ true) (sym o)
       (only-met (basis_for permit) other LIST_DIRECTORY met).1
   rows-for album stamp rows (ask.GetList other) met l = absurd (cc)
+  rows-for album stamp rows (ask.Head other) met l = absurd (cc)
+  rows-for album stamp rows (ask.Children other) met l = absurd (cc)
   rows-for album stamp rows (ask.AddPicture into t k) met l = absurd l
   rows-for album stamp rows (ask.AddAlbum into t) met l = absurd l
+  rows-for album stamp rows (ask.AddGroup into more) met l = absurd l
   rows-for album stamp rows (ask.Retitle other t) met l = absurd l
   rows-for album stamp rows (ask.Replace other k) met l = absurd l
   rows-for album stamp rows (ask.Delete other) met l = absurd l
@@ -540,8 +556,11 @@ module _ (permit : PermitState) where
             (only-met (basis_for permit) other READ_ACL met).1,
         ap (entries_named lookup) o ∙ sym k,
       )
+  entries-for object of stamp entries (ask.Head other) met l = absurd (cc)
+  entries-for object of stamp entries (ask.Children other) met l = absurd (cc)
   entries-for object of stamp entries (ask.AddPicture into t k) met l = absurd l
   entries-for object of stamp entries (ask.AddAlbum into t) met l = absurd l
+  entries-for object of stamp entries (ask.AddGroup into more) met l = absurd l
   entries-for object of stamp entries (ask.Retitle other t) met l = absurd l
   entries-for object of stamp entries (ask.Replace other k) met l = absurd l
   entries-for object of stamp entries (ask.Delete other) met l = absurd l
@@ -550,6 +569,92 @@ module _ (permit : PermitState) where
   entries-for object of stamp entries (ask.SetOwner other owner number) met l = absurd l
   entries-for object of stamp entries (ask.SetMembers other members) met l = absurd l
   entries-for object of stamp entries (ask.Share lists members) met l = absurd l
+
+  -- what a read is served is no head, and no album's children
+  read-head :
+      (other s object stamp : ℕ) (shown : Attributes) (v : Value) → served.Head object stamp shown ≡ read_of other s v → ⊥
+  read-head other s object stamp shown value.Missing e = cc
+  read-head other s object stamp shown (value.Picture x) e = cc
+  read-head other s object stamp shown (value.Album x) e = cc
+  read-head other s object stamp shown (value.List x) e = cc
+  read-head other s object stamp shown (value.Group x) e = cc
+
+  read-children :
+      (other s album stamp : ℕ) (children : List ℕ) (v : Value)
+      → served.Children album stamp children ≡ read_of other s v → ⊥
+  read-children other s album stamp children value.Missing e = cc
+  read-children other s album stamp children (value.Picture x) e = cc
+  read-children other s album stamp children (value.Album x) e = cc
+  read-children other s album stamp children (value.List x) e = cc
+  read-children other s album stamp children (value.Group x) e = cc
+
+  abbrev IsReadHead : ℕ → Attributes → Type 0
+  IsReadHead object shown =
+      IsTrue (is_granted_to permit object READ_ATTRIBUTES) × (attributes_of (lookup object) ≡ shown)
+
+  head-for :
+      (object stamp : ℕ) (shown : Attributes) (asked : Ask) → has_needs_met (basis_for permit) asked ≡ true
+      → IsServedFor permit (served.Head object stamp shown) asked → IsReadHead object shown
+  head-for object stamp shown (ask.Read other) met l =
+      absurd (read-head other (stamp_seen permit.view.rows other) object stamp shown (lookup other) l)
+  head-for object stamp shown (ask.List album) met l =
+      let e = l.given_is in absurd (let f : served.Head object stamp shown ≡ served.Listed album (stamp_seen permit.view.rows album) l.rows = e in cc)
+  head-for object stamp shown (ask.GetList other) met l = absurd (cc)
+  head-for object stamp shown (ask.Head other) met l =
+      let e : served.Head object stamp shown
+      ≡ served.Head other (stamp_seen permit.view.rows other) (attributes_of (lookup other)) = l in
+      let o : object ≡ other = cc in
+      let k : shown ≡ attributes_of (lookup other) = cc in (
+        subst (λ (i : ℕ). is_granted_to permit i READ_ATTRIBUTES ≡ true) (sym o)
+            (only-met (basis_for permit) other READ_ATTRIBUTES met).1,
+        ap (λ (i : ℕ). attributes_of (lookup i)) o ∙ sym k,
+      )
+  head-for object stamp shown (ask.Children other) met l = absurd (cc)
+  head-for object stamp shown (ask.AddPicture into t k) met l = absurd l
+  head-for object stamp shown (ask.AddAlbum into t) met l = absurd l
+  head-for object stamp shown (ask.AddGroup into more) met l = absurd l
+  head-for object stamp shown (ask.Retitle other t) met l = absurd l
+  head-for object stamp shown (ask.Replace other k) met l = absurd l
+  head-for object stamp shown (ask.Delete other) met l = absurd l
+  head-for object stamp shown (ask.Move other to) met l = absurd l
+  head-for object stamp shown (ask.SetLists lists) met l = absurd l
+  head-for object stamp shown (ask.SetOwner other owner number) met l = absurd l
+  head-for object stamp shown (ask.SetMembers other more) met l = absurd l
+  head-for object stamp shown (ask.Share lists more) met l = absurd l
+
+  abbrev AreReadChildren : ℕ → List ℕ → Type 0
+  AreReadChildren album children =
+      IsTrue (is_granted_to permit album LIST_DIRECTORY) × (children_of (lookup album) ≡ children)
+
+  children-for :
+      (album stamp : ℕ) (children : List ℕ) (asked : Ask) → has_needs_met (basis_for permit) asked ≡ true
+      → IsServedFor permit (served.Children album stamp children) asked → AreReadChildren album children
+  children-for album stamp children (ask.Read other) met l =
+      absurd (read-children other (stamp_seen permit.view.rows other) album stamp children (lookup other) l)
+  children-for album stamp children (ask.List other) met l =
+      let e = l.given_is in absurd (let f : served.Children album stamp children ≡ served.Listed other (stamp_seen permit.view.rows other) l.rows = e in cc)
+  children-for album stamp children (ask.GetList other) met l = absurd (cc)
+  children-for album stamp children (ask.Head other) met l = absurd (cc)
+  children-for album stamp children (ask.Children other) met l =
+      let e : served.Children album stamp children
+      ≡ served.Children other (stamp_seen permit.view.rows other) (children_of (lookup other)) = l in
+      let o : album ≡ other = cc in
+      let k : children ≡ children_of (lookup other) = cc in (
+        subst (λ (i : ℕ). is_granted_to permit i LIST_DIRECTORY ≡ true) (sym o)
+            (only-met (basis_for permit) other LIST_DIRECTORY met).1,
+        ap (λ (i : ℕ). children_of (lookup i)) o ∙ sym k,
+      )
+  children-for album stamp children (ask.AddPicture into t k) met l = absurd l
+  children-for album stamp children (ask.AddAlbum into t) met l = absurd l
+  children-for album stamp children (ask.AddGroup into more) met l = absurd l
+  children-for album stamp children (ask.Retitle other t) met l = absurd l
+  children-for album stamp children (ask.Replace other k) met l = absurd l
+  children-for album stamp children (ask.Delete other) met l = absurd l
+  children-for album stamp children (ask.Move other to) met l = absurd l
+  children-for album stamp children (ask.SetLists lists) met l = absurd l
+  children-for album stamp children (ask.SetOwner other owner number) met l = absurd l
+  children-for album stamp children (ask.SetMembers other more) met l = absurd l
+  children-for album stamp children (ask.Share lists more) met l = absurd l
 
 pub picture-granted :
     (permit : PermitState) (object stamp : ℕ) (title content : List ℕ) → IsPermit permit
@@ -574,3 +679,41 @@ pub entries-granted :
     → IsServed permit (served.Entries object of stamp entries) → IsReadList permit object entries
 entries-granted permit object of stamp entries kept l =
     entries-for permit object of stamp entries permit.view.ask (needs-met permit kept) l
+
+pub head-granted :
+    (permit : PermitState) (object stamp : ℕ) (shown : Attributes) → IsPermit permit
+    → IsServed permit (served.Head object stamp shown) → IsReadHead permit object shown
+head-granted permit object stamp shown kept l =
+    head-for permit object stamp shown permit.view.ask (needs-met permit kept) l
+
+pub children-granted :
+    (permit : PermitState) (album stamp : ℕ) (children : List ℕ) → IsPermit permit
+    → IsServed permit (served.Children album stamp children) → AreReadChildren permit album children
+children-granted permit album stamp children kept l =
+    children-for permit album stamp children permit.view.ask (needs-met permit kept) l
+
+-- what an object holds is no attribute of it
+pub content-unshown : (v : Value) (content : List ℕ) → attributes_of (with_content content v) ≡ attributes_of v
+content-unshown value.Missing content = refl
+content-unshown (value.Picture x) content = refl
+content-unshown (value.Album x) content = refl
+content-unshown (value.List x) content = refl
+content-unshown (value.Group x) content = refl
+
+pub children-unshown :
+    (v : Value) (children : List ℕ) → length children ≡ length (children_of v)
+    → attributes_of (with_children children v) ≡ attributes_of v
+children-unshown value.Missing children e = refl
+children-unshown (value.Picture x) children e = refl
+children-unshown (value.Album x) children e = ap (attributes.Album x.head x.title x.home) e
+children-unshown (value.List x) children e = refl
+children-unshown (value.Group x) children e = refl
+
+pub members-unshown :
+    (v : Value) (members : List Member) → length members ≡ length (members_of v)
+    → attributes_of (with_members members v) ≡ attributes_of v
+members-unshown value.Missing members e = refl
+members-unshown (value.Picture x) members e = refl
+members-unshown (value.Album x) members e = refl
+members-unshown (value.List x) members e = refl
+members-unshown (value.Group x) members e = ap (attributes.Group x.head) e

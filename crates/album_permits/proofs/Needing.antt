@@ -4,7 +4,7 @@ use Rattle.std.proofs.Common.{◌≡◌, ◌<◌, ◌==◌, ℕ, zero, suc, List
 use Rattle.std.specs.List.{flat_map, slice_index_or}
 use Rattle.std.proofs.lemmas.List.Elements.{Contains-append_left, Contains-append_right}
 use Rattle.album_eval.specs.declared.facts.Principal.{Principal}
-use Rattle.album_items.specs.ItemIds.{picture, album, list}
+use Rattle.album_items.specs.ItemIds.{picture, album, list, group}
 use Rattle.album_items.specs.Values.{home_of, list_of}
 use Rattle.album_items.specs.declared.values.Value.{Value}
 use Rattle.album_items.specs.declared.values.Value.TheVariants as value
@@ -160,14 +160,18 @@ module _ (lookup : ℕ → Value) (me : Principal) (stamp : ℕ) where
   written-may (ask.Read object) = tt
   written-may (ask.List album) = tt
   written-may (ask.GetList object) = tt
+  written-may (ask.Head object) = tt
+  written-may (ask.Children album) = tt
   written-may (ask.AddPicture into title content) = (
-    New (picture stamp) refl (0, omega arith, refl),
-    (New (list stamp) refl (2, omega arith, refl), (Object into (first-of into []), tt)),
+    New (picture stamp) (0, omega arith, refl),
+    (New (list stamp) (1, omega arith, refl), (Object into (first-of into []), tt)),
   )
   written-may (ask.AddAlbum into title) = (
-    New (album stamp) refl (1, omega arith, refl),
-    (New (list stamp) refl (2, omega arith, refl), (Object into (first-of into []), tt)),
+    New (album stamp) (0, omega arith, refl),
+    (New (list stamp) (1, omega arith, refl), (Object into (first-of into []), tt)),
   )
+  written-may (ask.AddGroup into members) =
+      (New (group stamp) (0, omega arith, refl), (New (list stamp) (1, omega arith, refl), tt))
   written-may (ask.Retitle object title) = (Object object (first-of object []), tt)
   written-may (ask.Replace object content) = (Object object (first-of object []), tt)
   written-may (ask.Delete object) = (

@@ -9,7 +9,7 @@ use Rattle.album_lists.specs.declared.lists.Ace.{Ace}
 use Rattle.album_lists.specs.declared.lists.Holder.TheVariants.{Plain, Folder}
 use Rattle.album_eval.specs.declared.facts.Principal.{Principal}
 use Rattle.album_eval.specs.declared.policies.Policy.{Policy}
-use Rattle.album_items.specs.ItemIds.{picture, album, list, number_of}
+use Rattle.album_items.specs.ItemIds.{picture, album, list, group, number_of}
 use Rattle.album_items.specs.Values.{head_of, home_of, children_of, entries_of, list_of}
 use Rattle.album_items.specs.declared.values.Head.{Head}
 use Rattle.album_items.specs.declared.values.Value.{Value}
@@ -28,8 +28,9 @@ use Rattle.album_listing.specs.Agreement.{AgreeOn}
 use Rattle.album_listing.specs.ViewLookups.{stamp_seen, entries_named, list_named, stamp_named}
 use Rattle.album_listing.proofs.Judging.{first-of}
 use Rattle.album_listing.proofs.Looking.{seen-alike, listings-alike}
+use Rattle.album_permits.specs.Attributes.{attributes_of}
 use Rattle.album_permits.specs.Changes.{with_title, with_content, with_home, with_owner, with_members, without_child, with_child}
-use Rattle.album_permits.specs.Effects.{Write, name_of, head_group_seen, list_dropped, taken_out, list_written, members_written, written, merged, effect_of, has_most_others, is_album_full, is_full_for}
+use Rattle.album_permits.specs.Effects.{Write, name_of, head_group_seen, owners_list, list_dropped, taken_out, list_written, members_written, written, merged, effect_of, has_most_others, is_album_full, is_full_for}
 use Rattle.album_permits.specs.Permits.{permit_on}
 use Rattle.album_permits.specs.Serving.{read_of, IsServed}
 use Rattle.album_permits.specs.declared.serving.Served.{Served}
@@ -134,6 +135,8 @@ module _ (me : Principal) (stamp : ℕ) where
   written-alike looker (ask.Read object) one other agree = refl
   written-alike looker (ask.List into) one other agree = refl
   written-alike looker (ask.GetList object) one other agree = refl
+  written-alike looker (ask.Head object) one other agree = refl
+  written-alike looker (ask.Children into) one other agree = refl
   written-alike looker (ask.AddPicture into title content) one other agree =
       let made : ℕ → List Ace → Value → List Write =
       λ g es v. (
@@ -164,6 +167,19 @@ module _ (me : Principal) (stamp : ℕ) where
       (same looker (ask.AddAlbum into title) one other agree into (first-of into []))
       ∙ ap (λ (es : List Ace). made (head_group_seen (seen other) into) es (seen other into))
       (entries-alike looker (ask.AddAlbum into title) one other agree into (first-of into []))
+  written-alike looker (ask.AddGroup into members) one other agree =
+      ap (λ (v : Value). (
+        group stamp,
+        value.Group (record {
+          head = record {
+            owner = name_of me;
+            group = option_map_or (λ (head : Head). head.group) (head_of v) 0;
+            list = stamp;
+          };
+          members = members;
+        }),
+      ) ∷ (list stamp, value.List owners_list) ∷ [])
+      (same looker (ask.AddGroup into members) one other agree into (first-of into []))
   written-alike looker (ask.Retitle object title) one other agree =
       ap (λ (v : Value). (object, with_title title v) ∷ [])
       (same looker (ask.Retitle object title) one other agree object (first-of object []))
@@ -210,10 +226,13 @@ module _ (me : Principal) (stamp : ℕ) where
   full-alike looker (ask.Read object) one other agree = refl
   full-alike looker (ask.List into) one other agree = refl
   full-alike looker (ask.GetList object) one other agree = refl
+  full-alike looker (ask.Head object) one other agree = refl
+  full-alike looker (ask.Children into) one other agree = refl
   full-alike looker (ask.AddPicture into title content) one other agree =
       ap (has_most_others (picture stamp)) (same looker (ask.AddPicture into title content) one other agree into (first-of into []))
   full-alike looker (ask.AddAlbum into title) one other agree =
       ap (has_most_others (album stamp)) (same looker (ask.AddAlbum into title) one other agree into (first-of into []))
+  full-alike looker (ask.AddGroup into members) one other agree = refl
   full-alike looker (ask.Retitle object title) one other agree = refl
   full-alike looker (ask.Replace object content) one other agree = refl
   full-alike looker (ask.Delete object) one other agree = refl
@@ -263,8 +282,23 @@ served-alike policy me (ask.GetList object) one other given more agree l m =
     ∙ ap (served.Entries object (list_named (seen other) object) (stamp_named other object))
     (entries-alike (looker_of policy me) (ask.GetList object) one other agree object (first-of object []))
     ∙ sym m
+served-alike policy me (ask.Head object) one other given more agree l m =
+    let stamps = stamp-alike (looker_of policy me) (ask.Head object) one other agree object (Subject object (first-of object [])) in
+    l
+    ∙ ap (λ (s : ℕ). served.Head object s (attributes_of (seen one object))) stamps
+    ∙ ap (λ (v : Value). served.Head object (stamp_seen other object) (attributes_of v))
+    (same (looker_of policy me) (ask.Head object) one other agree object (first-of object []))
+    ∙ sym m
+served-alike policy me (ask.Children into) one other given more agree l m =
+    let stamps = stamp-alike (looker_of policy me) (ask.Children into) one other agree into (Subject into (first-of into [])) in
+    l
+    ∙ ap (λ (s : ℕ). served.Children into s (children_of (seen one into))) stamps
+    ∙ ap (λ (v : Value). served.Children into (stamp_seen other into) (children_of v))
+    (same (looker_of policy me) (ask.Children into) one other agree into (first-of into []))
+    ∙ sym m
 served-alike policy me (ask.AddPicture into title content) one other given more agree l m = absurd l
 served-alike policy me (ask.AddAlbum into title) one other given more agree l m = absurd l
+served-alike policy me (ask.AddGroup into members) one other given more agree l m = absurd l
 served-alike policy me (ask.Retitle object title) one other given more agree l m = absurd l
 served-alike policy me (ask.Replace object content) one other given more agree l m = absurd l
 served-alike policy me (ask.Delete object) one other given more agree l m = absurd l

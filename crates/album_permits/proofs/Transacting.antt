@@ -12,7 +12,7 @@ use Rattle.album_lists.specs.declared.lists.Holder.TheVariants.{Plain, Folder}
 use Rattle.album_lists.specs.declared.whos.Member.{Member}
 use Rattle.album_eval.specs.declared.facts.Principal.{Principal}
 use Rattle.album_items.specs.ItemBack.{kind_of-item}
-use Rattle.album_items.specs.ItemIds.{item, picture, album, list, kind_of, number_of}
+use Rattle.album_items.specs.ItemIds.{item, picture, album, list, group, kind_of, number_of}
 use Rattle.album_items.specs.Transactions.{items_written, are_items, has_right_kind}
 use Rattle.album_items.specs.Values.{is_of, head_of, home_of, list_of}
 use Rattle.album_items.specs.declared.values.Value.{Value}
@@ -30,7 +30,7 @@ use Rattle.album_views.specs.declared.asks.NewMembership.{NewMembership}
 use Rattle.album_listing.specs.Basis.{Basis}
 use Rattle.album_listing.specs.Masks.{WRITE_ACL}
 use Rattle.album_permits.specs.Changes.{with_title, with_content, with_home, with_owner, with_members, without_child, with_child}
-use Rattle.album_permits.specs.Effects.{Write, new_head, heritage, list_dropped, taken_out, list_written, members_written, written, put, merged, effect_of}
+use Rattle.album_permits.specs.Effects.{Write, new_head, heritage, owners_list, list_dropped, taken_out, list_written, members_written, written, put, merged, effect_of}
 use Rattle.album_permits.specs.Findings.{and_then_found, reasons_of, found_by, need_found, needs_found, ruling_of}
 use Rattle.album_permits.specs.Kinds.{shows_right_kinds}
 use Rattle.album_permits.specs.Needs.{just, needs_of}
@@ -181,8 +181,11 @@ module _ (shown : ℕ → Value) (p : Principal) (stamp : ℕ) where
   few-written (ask.Read object) few = omega arith
   few-written (ask.List object) few = omega arith
   few-written (ask.GetList object) few = omega arith
+  few-written (ask.Head object) few = omega arith
+  few-written (ask.Children album) few = omega arith
   few-written (ask.AddPicture into title content) few = omega arith
   few-written (ask.AddAlbum into title) few = omega arith
+  few-written (ask.AddGroup into members) few = omega arith
   few-written (ask.Retitle object title) few = omega arith
   few-written (ask.Replace object content) few = omega arith
   few-written (ask.Delete object) few = omega (arith, few-deleted object (shown object))
@@ -231,8 +234,11 @@ module _ (basis : Basis) (p : Principal) (stamp : ℕ) where
   some-written (ask.Read object) change some granted = absurd (cc)
   some-written (ask.List object) change some granted = absurd (cc)
   some-written (ask.GetList object) change some granted = absurd (cc)
+  some-written (ask.Head object) change some granted = absurd (cc)
+  some-written (ask.Children album) change some granted = absurd (cc)
   some-written (ask.AddPicture into title content) change some granted = omega arith
   some-written (ask.AddAlbum into title) change some granted = omega arith
+  some-written (ask.AddGroup into members) change some granted = omega arith
   some-written (ask.Retitle object title) change some granted = omega arith
   some-written (ask.Replace object content) change some granted = omega arith
   some-written (ask.Delete object) change some granted = omega arith
@@ -405,6 +411,8 @@ module _
     written-right (ask.Read object) = refl
     written-right (ask.List object) = refl
     written-right (ask.GetList object) = refl
+    written-right (ask.Head object) = refl
+    written-right (ask.Children album) = refl
     written-right (ask.AddPicture into title content) =
         let made : Write = (
           picture stamp,
@@ -431,6 +439,10 @@ module _
         in
         let inherits : Write = (list stamp, value.List (heritage shown Folder into)) in
         added-right into (album stamp) made inherits (own-code 1 stamp (omega arith)) (own-code 2 stamp (omega arith))
+    written-right (ask.AddGroup into members) =
+        let made : Write = (group stamp, value.Group (record { head = new_head shown p stamp into; members = members })) in
+        let own : Write = (list stamp, value.List owners_list) in
+        all-right made (own ∷ []) (own-code 3 stamp (omega arith)) (one-right own (own-code 2 stamp (omega arith)))
     written-right (ask.Retitle object title) =
         one-right (object, with_title title (shown object))
         (kept-title title (shown object) (kind_of object) (right object))

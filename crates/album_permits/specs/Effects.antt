@@ -3,13 +3,16 @@ use Rattle.std.specs.Prelude.{ℕ, List, [], ◌∷◌, ◌++◌, ◌==◌, Bool
 use Rattle.std.specs.List.{flat_map}
 use Rattle.std.specs.Option.{option_map_or}
 use Rattle.album_stamps.specs.declared.limits.TheConstants.{MAX_CHILDREN}
+use Rattle.album_access.specs.Bits.{all_mask_bits}
+use Rattle.album_access.specs.declared.types.AceType.TheVariants.{Allowed}
 use Rattle.album_lists.specs.Inheritance.{inherited}
 use Rattle.album_lists.specs.declared.lists.Ace.{Ace}
 use Rattle.album_lists.specs.declared.lists.Holder.{Holder}
 use Rattle.album_lists.specs.declared.lists.Holder.TheVariants.{Plain, Folder}
+use Rattle.album_lists.specs.declared.whos.Who.TheVariants as who
 use Rattle.album_eval.specs.declared.facts.Principal.{Principal}
 use Rattle.album_eval.specs.declared.facts.Principal.TheVariants as principal
-use Rattle.album_items.specs.ItemIds.{picture, album, list, number_of}
+use Rattle.album_items.specs.ItemIds.{picture, album, list, group, number_of}
 use Rattle.album_items.specs.Values.{head_of, home_of, children_of, list_of}
 use Rattle.album_items.specs.declared.values.Head.{Head}
 use Rattle.album_items.specs.declared.values.Value.{Value}
@@ -48,6 +51,15 @@ new_head seen principal stamp album =
 abbrev pub heritage : (ℕ → Value) → Holder → ℕ → List Ace
 heritage seen holder album = inherited holder (entries_named seen album)
 
+-- all rights for the owner, and none for anybody else
+abbrev pub owners_entry : Ace
+owners_entry =
+    record { sort = Allowed; who = who.Owner; mask = record { 0 = all_mask_bits }; flags = record { 0 = 0 } }
+
+-- the list of that entry alone
+abbrev pub owners_list : List Ace
+owners_list = owners_entry ∷ []
+
 -- the list of an item is no more
 abbrev pub list_dropped : (ℕ → Value) → ℕ → List Write
 list_dropped seen item = map (λ list. (list, value.Missing)) (list_of (seen item))
@@ -71,6 +83,8 @@ abbrev pub written : (ℕ → Value) → Principal → ℕ → Ask → List Writ
 written seen principal stamp (ask.Read object) = []
 written seen principal stamp (ask.List album) = []
 written seen principal stamp (ask.GetList object) = []
+written seen principal stamp (ask.Head object) = []
+written seen principal stamp (ask.Children album) = []
 written seen principal stamp (ask.AddPicture into title content) = (
   picture stamp,
   value.Picture (record {
@@ -95,6 +109,10 @@ written seen principal stamp (ask.AddAlbum into title) = (
     ∷ (list stamp, value.List (heritage seen Folder into))
     ∷ (into, with_child (album stamp) (seen into))
     ∷ []
+written seen principal stamp (ask.AddGroup into members) =
+    (group stamp, value.Group (record { head = new_head seen principal stamp into; members = members }))
+    ∷ (list stamp, value.List owners_list)
+    ∷ []
 written seen principal stamp (ask.Retitle object title) = (object, with_title title (seen object)) ∷ []
 written seen principal stamp (ask.Replace object content) = (object, with_content content (seen object)) ∷ []
 written seen principal stamp (ask.Delete object) =
@@ -103,7 +121,8 @@ written seen principal stamp (ask.Move object to) =
     (object, with_home (number_of to) (seen object))
     ∷ (taken_out seen object ++ (to, with_child object (seen to)) ∷ [])
 written seen principal stamp (ask.SetLists lists) = flat_map (list_written seen) lists
-written seen principal stamp (ask.SetOwner object owner group) = (object, with_owner owner group (seen object)) ∷ []
+written seen principal stamp (ask.SetOwner object owner number) =
+    (object, with_owner owner number (seen object)) ∷ []
 written seen principal stamp (ask.SetMembers object members) = (object, with_members members (seen object)) ∷ []
 written seen principal stamp (ask.Share lists members) =
     flat_map (list_written seen) lists ++ map (members_written seen) members
@@ -132,14 +151,17 @@ abbrev pub is_album_full : (ℕ → Value) → ℕ → Ask → Bool
 is_album_full seen stamp (ask.Read object) = false
 is_album_full seen stamp (ask.List album) = false
 is_album_full seen stamp (ask.GetList object) = false
+is_album_full seen stamp (ask.Head object) = false
+is_album_full seen stamp (ask.Children album) = false
 is_album_full seen stamp (ask.AddPicture into title content) = has_most_others (picture stamp) (seen into)
 is_album_full seen stamp (ask.AddAlbum into title) = has_most_others (album stamp) (seen into)
+is_album_full seen stamp (ask.AddGroup into members) = false
 is_album_full seen stamp (ask.Retitle object title) = false
 is_album_full seen stamp (ask.Replace object content) = false
 is_album_full seen stamp (ask.Delete object) = false
 is_album_full seen stamp (ask.Move object to) = has_most_others object (seen to)
 is_album_full seen stamp (ask.SetLists lists) = false
-is_album_full seen stamp (ask.SetOwner object owner group) = false
+is_album_full seen stamp (ask.SetOwner object owner number) = false
 is_album_full seen stamp (ask.SetMembers object members) = false
 is_album_full seen stamp (ask.Share lists members) = false
 

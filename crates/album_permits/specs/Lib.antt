@@ -3,6 +3,7 @@ pub mod Findings
 pub mod Notes
 pub mod Permits
 pub mod Rulings
+pub mod Attributes
 pub mod Serving
 pub mod Changes
 pub mod Effects

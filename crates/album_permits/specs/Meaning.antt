@@ -1,11 +1,10 @@
 -- What a ruling and its notes mean, what a grant means, and what it lets be written.
-use Rattle.std.specs.Prelude.{◌≡◌, ℕ, List, [], ◌∷◌, ◌++◌, Bool, not, ◌&&◌, ◌==◌, IsTrue, Contains, map, filter}
+use Rattle.std.specs.Prelude.{◌≡◌, ℕ, List, ◌++◌, Bool, not, ◌&&◌, ◌==◌, Contains, map, filter}
 use Rattle.std.specs.List.{list_all, list_any, flat_map}
 use Rattle.album_access.specs.declared.masks.Mask.{Mask}
-use Rattle.album_items.specs.ItemIds.{picture, album, list}
 use Rattle.album_items.specs.Values.{list_of}
 use Rattle.album_items.specs.declared.values.Value.{Value}
-use Rattle.album_views.specs.Asks.{is_adding}
+use Rattle.album_views.specs.Asks.{made_by}
 use Rattle.album_views.specs.declared.asks.Ask.{Ask}
 use Rattle.album_views.specs.declared.asks.NewList.{NewList}
 use Rattle.album_views.specs.declared.asks.NewMembership.{NewMembership}
@@ -58,12 +57,11 @@ objects_changed seen ask =
     map (λ (a : Alternative). a.object)
     (filter (λ (a : Alternative). is_of_change a.mask) (flat_map (λ need. need) (needs_of seen ask)))
 
--- What an ask may write at a stamp: the new picture or album with its list, if it makes one. Also an object on which it
+-- What an ask may write at a stamp: the new object with its list, if it makes one. Also an object on which it
 -- needs more than a right to read, and the list of that object.
 pub data MayWrite (seen : ℕ → Value) (stamp : ℕ) (ask : Ask) : ℕ → Type 0 where
   New :
-      (item : ℕ) → IsTrue (is_adding ask) → Contains (picture stamp ∷ album stamp ∷ list stamp ∷ []) item
-      → MayWrite seen stamp ask item
+      (item : ℕ) → Contains (made_by ask stamp) item → MayWrite seen stamp ask item
   Object : (object : ℕ) → Contains (objects_changed seen ask) object → MayWrite seen stamp ask object
   ListOf :
       (object item : ℕ) → Contains (objects_changed seen ask) object → Contains (list_of (seen object)) item

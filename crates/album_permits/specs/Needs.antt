@@ -7,7 +7,7 @@ use Rattle.album_views.specs.declared.asks.Ask.{Ask}
 use Rattle.album_views.specs.declared.asks.Ask.TheVariants as ask
 use Rattle.album_views.specs.declared.asks.NewList.{NewList}
 use Rattle.album_views.specs.declared.asks.NewMembership.{NewMembership}
-use Rattle.album_listing.specs.Masks.{READ_DATA, WRITE_DATA, LIST_DIRECTORY, ADD_FILE, ADD_SUBDIRECTORY, DELETE_CHILD, WRITE_ATTRIBUTES, DELETE, READ_ACL, WRITE_ACL, WRITE_OWNER}
+use Rattle.album_listing.specs.Masks.{READ_DATA, WRITE_DATA, LIST_DIRECTORY, ADD_FILE, ADD_SUBDIRECTORY, DELETE_CHILD, READ_ATTRIBUTES, WRITE_ATTRIBUTES, DELETE, READ_ACL, WRITE_ACL, WRITE_OWNER}
 use Rattle.album_listing.specs.Reasons.{on}
 use Rattle.album_listing.specs.declared.reasons.Alternative.{Alternative}
 
@@ -24,8 +24,11 @@ abbrev pub needs_of : (ℕ → Value) → Ask → List (List Alternative)
 needs_of seen (ask.Read object) = just object READ_DATA ∷ []
 needs_of seen (ask.List album) = just album LIST_DIRECTORY ∷ []
 needs_of seen (ask.GetList object) = just object READ_ACL ∷ []
+needs_of seen (ask.Head object) = just object READ_ATTRIBUTES ∷ []
+needs_of seen (ask.Children album) = just album LIST_DIRECTORY ∷ []
 needs_of seen (ask.AddPicture album title content) = just album ADD_FILE ∷ []
 needs_of seen (ask.AddAlbum album title) = just album ADD_SUBDIRECTORY ∷ []
+needs_of seen (ask.AddGroup album members) = just album WRITE_ACL ∷ []
 needs_of seen (ask.Retitle object title) = just object WRITE_ATTRIBUTES ∷ []
 needs_of seen (ask.Replace object content) = just object WRITE_DATA ∷ []
 needs_of seen (ask.Delete object) = deletion seen object ∷ []

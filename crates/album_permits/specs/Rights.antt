@@ -1,16 +1,16 @@
 -- What may be changed of an item by a permit, right by right.
-use Rattle.std.specs.Prelude.{◌≡◌, ◌⊎◌, ◌∷◌, [], ℕ, List, Bool, false, Some, Option, ◌||◌, IsTrue, Contains}
+use Rattle.std.specs.Prelude.{◌≡◌, ◌⊎◌, ℕ, List, Bool, false, Some, Option, ◌||◌, IsTrue, Contains}
 use Rattle.std.specs.List.{list_any}
 use Rattle.album_access.specs.declared.masks.Mask.{Mask}
 use Rattle.album_lists.specs.declared.lists.Ace.{Ace}
 use Rattle.album_lists.specs.declared.whos.Member.{Member}
-use Rattle.album_items.specs.ItemIds.{picture, album, list, kind_of}
+use Rattle.album_items.specs.ItemIds.{kind_of}
 use Rattle.album_items.specs.Values.{head_of, home_of, children_of, list_of}
 use Rattle.album_items.specs.declared.values.Album.{Album}
 use Rattle.album_items.specs.declared.values.Head.{Head}
 use Rattle.album_items.specs.declared.values.Value.{Value}
 use Rattle.album_items.specs.declared.values.Value.TheVariants as value
-use Rattle.album_views.specs.Asks.{is_adding}
+use Rattle.album_views.specs.Asks.{made_by}
 use Rattle.album_views.specs.Seen.{seen}
 use Rattle.album_listing.specs.GroupsFound.{basis_on}
 use Rattle.album_listing.specs.Masks.{WRITE_DATA, ADD_FILE, ADD_SUBDIRECTORY, DELETE_CHILD, WRITE_ATTRIBUTES, DELETE, WRITE_ACL, WRITE_OWNER}
@@ -48,8 +48,7 @@ pub record MayBeSet (permit : PermitState) (item : ℕ) : Type 0 where
 
 -- the item is one that the ask makes at the stamp
 abbrev pub IsNew : PermitState → ℕ → ℕ → Type 0
-IsNew permit stamp item =
-    IsTrue (is_adding permit.view.ask) × Contains (picture stamp ∷ album stamp ∷ list stamp ∷ []) item
+IsNew permit stamp item = Contains (made_by permit.view.ask stamp) item
 
 -- by the permit an item that it does not make is to have this value
 pub record IsRewritten (permit : PermitState) (stamp item : ℕ) (is : Value) : Type 0 where

@@ -1,6 +1,6 @@
 -- What a granted ask is served that writes nothing.
 use Rattle.std.specs.Prelude.{◌≡◌, ℕ, List}
-use Rattle.album_items.specs.Values.{members_of}
+use Rattle.album_items.specs.Values.{children_of, members_of}
 use Rattle.album_items.specs.declared.values.Value.{Value}
 use Rattle.album_items.specs.declared.values.Value.TheVariants as value
 use Rattle.album_views.specs.Seen.{seen}
@@ -9,6 +9,7 @@ use Rattle.album_views.specs.declared.asks.Ask.TheVariants as ask
 use Rattle.album_listing.specs.Listing.{IsListing}
 use Rattle.album_listing.specs.ViewLookups.{stamp_seen, stamp_named, list_named, entries_named}
 use Rattle.album_listing.specs.declared.rows.Row.{Row}
+use Rattle.album_permits.specs.Attributes.{attributes_of}
 use Rattle.album_permits.specs.Permits.{PermitState}
 use Rattle.album_permits.specs.declared.serving.Served.{Served}
 use Rattle.album_permits.specs.declared.serving.Served.TheVariants as served
@@ -36,8 +37,13 @@ IsServedFor permit given (ask.GetList object) =
     given
     ≡ served.Entries object (list_named (seen permit.view.rows) object) (stamp_named permit.view.rows object)
     (entries_named (seen permit.view.rows) object)
+IsServedFor permit given (ask.Head object) =
+    given ≡ served.Head object (stamp_seen permit.view.rows object) (attributes_of (seen permit.view.rows object))
+IsServedFor permit given (ask.Children album) =
+    given ≡ served.Children album (stamp_seen permit.view.rows album) (children_of (seen permit.view.rows album))
 IsServedFor permit given (ask.AddPicture album title content) = ⊥
 IsServedFor permit given (ask.AddAlbum album title) = ⊥
+IsServedFor permit given (ask.AddGroup album members) = ⊥
 IsServedFor permit given (ask.Retitle object title) = ⊥
 IsServedFor permit given (ask.Replace object content) = ⊥
 IsServedFor permit given (ask.Delete object) = ⊥

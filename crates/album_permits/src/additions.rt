@@ -2,17 +2,21 @@
 ghost use Rattle.std.specs.Prelude.{◌≡◌, ◌∷◌, [], Some, IfOk, IsOkUnless, IsTrue};
 ghost use Rattle.album_lists.specs.declared.lists.Holder.TheVariants.{Plain, Folder};
 ghost use Rattle.album_eval.specs.Matching.{is_known};
-ghost use Rattle.album_items.specs.ItemIds.{picture, album, list, number_of};
+ghost use Rattle.album_items.specs.ItemIds.{picture, album, list, group, number_of};
 ghost use Rattle.album_views.specs.Seen.{seen};
 ghost use Rattle.album_permits.specs.Changes.{with_child};
-ghost use Rattle.album_permits.specs.Effects.{head_group_seen, new_head, heritage};
+ghost use Rattle.album_permits.specs.Effects.{head_group_seen, new_head, heritage, owners_entry, owners_list};
 
 use crate::changes::with_child;
+use album_access::{AceFlags, AceType, Mask};
 use album_eval::Principal;
-use album_items::{Album, Content, Head, ItemId, Items, Kind, Picture, Title, Value};
+use album_items::{
+    Album, Content, Group, Head, ItemId, Items, Kind, Members, Picture, Title, Value,
+};
 use album_listing::ViewLookup;
-use album_lists::{AccessList, Holder};
+use album_lists::{AccessList, Ace, Holder, Who};
 use album_stamps::{Refusal, Stamp};
+use bitflags::Flags;
 use std::alloc::Global;
 
 /// A new picture of this title and content in the album, with its list; and the album with it.
@@ -131,6 +135,77 @@ fn new_album(
         home: Some(into.number()),
         children: Items::of(Vec::new(alloc)),
     })
+}
+
+/// A new group of these members, for the album, with a list by which its owner alone has rights.
+pub(crate) fn group_added(
+    alloc: Global,
+    lookup: &ViewLookup,
+    principal: &Principal,
+    stamp: Stamp,
+    into: ItemId,
+    members: &Members,
+) -> Result<Vec<(ItemId, Value)>, Refusal>
+    requires known { IsTrue (is_known principal.now) }
+    ensures writes { IfOk result (λ writes. writes.items ≡ (
+      group stamp,
+      Value.Group (record {
+        head = new_head (seen lookup.now.view.now.rows) principal.now stamp into;
+        members = members.now;
+      }),
+    )
+        ∷ (list stamp, Value.List owners_list)
+        ∷ []) }
+    ensures memory { IsOkUnless result Refusal.OutOfMemory }
+{
+    let group = new_group(lookup, principal, stamp, into, members)?;
+    let item = ItemId::new(Kind::Group, stamp.value());
+    let mut writes = vec![in alloc; (item, Value::Group(group))]?;
+    writes.push((list_at(stamp), Value::List(owners_list(alloc)?)))?;
+    Ok(writes)
+}
+
+fn new_group(
+    lookup: &ViewLookup,
+    principal: &Principal,
+    stamp: Stamp,
+    into: ItemId,
+    members: &Members,
+) -> Result<Group, Refusal>
+    requires known { IsTrue (is_known principal.now) }
+    ensures group { IfOk result (λ group. group ≡ record {
+      head = new_head (seen lookup.now.view.now.rows) principal.now stamp into;
+      members = members.now;
+    }) }
+    ensures memory { IsOkUnless result Refusal.OutOfMemory }
+{
+    Ok(Group {
+        head: new_head(lookup, principal, stamp, into)?,
+        members: members.clone()?,
+    })
+}
+
+/// All rights for the owner, and none for anybody else.
+fn owners_list(alloc: Global) -> Result<AccessList, Refusal>
+    ensures list { IfOk result (λ list. list ≡ owners_list) }
+    ensures memory { IsOkUnless result Refusal.OutOfMemory }
+{
+    match AccessList::new(vec![in alloc; owners_entry()]?) {
+        Ok(list) => Ok(list),
+        // One entry that a line can spell is a list.
+        Err(_) => unreachable!(),
+    }
+}
+
+fn owners_entry() -> Ace
+    ensures { result ≡ owners_entry }
+{
+    Ace {
+        sort: AceType::Allowed,
+        who: Who::Owner,
+        mask: Mask::all(),
+        flags: AceFlags::empty(),
+    }
 }
 
 /// A new child with its list, and the album with it.

@@ -10,7 +10,7 @@ ghost use Rattle.album_items.specs.Transactions.{items_written, are_items};
 ghost use Rattle.album_permits.specs.Changes.{with_home, with_child};
 ghost use Rattle.album_permits.specs.Effects.{written, list_dropped, taken_out, list_written, members_written, effect_of, has_most_others, is_album_full, is_full_for};
 
-use crate::additions::{album_added, album_at, picture_added, picture_at};
+use crate::additions::{album_added, album_at, group_added, picture_added, picture_at};
 use crate::changes::{
     with_child, with_content, with_home, with_members, with_owner, with_title, without_child,
 };
@@ -82,6 +82,7 @@ fn is_album_full(lookup: &ViewLookup, stamp: Stamp, ask: &Ask) -> bool
         Ask::AddAlbum { album, .. } => has_most_others(album_at(stamp), lookup.value(*album)),
         Ask::Move { object, to } => has_most_others(*object, lookup.value(*to)),
         Ask::Read { .. } | Ask::List { .. } | Ask::GetList { .. } => false,
+        Ask::Head { .. } | Ask::Children { .. } | Ask::AddGroup { .. } => false,
         Ask::Retitle { .. } | Ask::Replace { .. } | Ask::Delete { .. } => false,
         Ask::SetLists { .. } | Ask::SetOwner { .. } | Ask::SetMembers { .. } => false,
         Ask::Share { .. } => false,
@@ -149,6 +150,7 @@ fn written(
 {
     match ask {
         Ask::Read { .. } | Ask::List { .. } | Ask::GetList { .. } => Ok(Vec::new(alloc)),
+        Ask::Head { .. } | Ask::Children { .. } => Ok(Vec::new(alloc)),
         Ask::AddPicture {
             album,
             title,
@@ -156,6 +158,9 @@ fn written(
         } => picture_added(alloc, lookup, principal, stamp, *album, title, content),
         Ask::AddAlbum { album, title } => {
             album_added(alloc, lookup, principal, stamp, *album, title)
+        }
+        Ask::AddGroup { album, members } => {
+            group_added(alloc, lookup, principal, stamp, *album, members)
         }
         Ask::Retitle { object, title } => {
             one(alloc, *object, with_title(lookup.value(*object), title)?)

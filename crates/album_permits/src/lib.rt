@@ -16,6 +16,7 @@ mod notes;
 mod rulings;
 
 // What a granted ask may do.
+mod attributes;
 mod permits;
 mod serving;
 
@@ -41,6 +42,7 @@ mod rights;
 mod ruling_laws;
 
 pub use answers::Answer;
+pub use attributes::Attributes;
 pub use disclosure::{answers_disclose_nothing, secrets_decide_nothing};
 pub use effect_laws::an_effect_is_one_transaction;
 pub use events::Event;
@@ -52,7 +54,7 @@ pub use note_laws::{notes_go_with_the_ruling, notes_say_the_verdict, what_takes_
 pub use notes::Note;
 pub use outs::Out;
 pub use permits::Permit;
-pub use rights::{what_changes_is_granted, what_is_served_is_granted};
+pub use rights::{heads_show_no_contents, what_changes_is_granted, what_is_served_is_granted};
 pub use ruling_laws::{
     one_ruling, permits_are_spent_on_what_is_named, rulings_look_at_what_is_named,
 };

@@ -45,10 +45,15 @@ pub(crate) fn needs(alloc: Global, lookup: &ViewLookup, ask: &Ask) -> Result<Vec
         // LIST_DIRECTORY
         Ask::List { album } => one(alloc, *album, Mask::READ_DATA),
         Ask::GetList { object } => one(alloc, *object, Mask::READ_ACL),
+        Ask::Head { object } => one(alloc, *object, Mask::READ_ATTRIBUTES),
+        // LIST_DIRECTORY
+        Ask::Children { album } => one(alloc, *album, Mask::READ_DATA),
         // ADD_FILE
         Ask::AddPicture { album, .. } => one(alloc, *album, Mask::WRITE_DATA),
         // ADD_SUBDIRECTORY
         Ask::AddAlbum { album, .. } => one(alloc, *album, Mask::APPEND_DATA),
+        // Who may set the album's list may make a group for it.
+        Ask::AddGroup { album, .. } => one(alloc, *album, Mask::WRITE_ACL),
         Ask::Retitle { object, .. } => one(alloc, *object, Mask::WRITE_ATTRIBUTES),
         Ask::Replace { object, .. } => one(alloc, *object, Mask::WRITE_DATA),
         Ask::Delete { object } => Ok(vec![in alloc; deletion(alloc, lookup, *object)?]?),

@@ -1,17 +1,20 @@
 //! Laws of what can't be had without a right.
-ghost use Rattle.std.specs.Prelude.{◌≡◌, ℕ, List, Some, IsTrue};
+ghost use Rattle.std.specs.Prelude.{◌≡◌, ℕ, List, length, Some, IsTrue};
 ghost use Rattle.album_lists.specs.declared.lists.Ace.{Ace};
 ghost use Rattle.album_lists.specs.declared.whos.Member.{Member};
-ghost use Rattle.album_items.specs.Values.{members_of};
+ghost use Rattle.album_items.specs.Values.{children_of, members_of};
 ghost use Rattle.album_items.specs.declared.values.Value.{Value};
 ghost use Rattle.album_views.specs.Seen.{seen};
-ghost use Rattle.album_listing.specs.Masks.{READ_DATA, LIST_DIRECTORY, READ_ACL};
+ghost use Rattle.album_listing.specs.Masks.{READ_DATA, LIST_DIRECTORY, READ_ATTRIBUTES, READ_ACL};
 ghost use Rattle.album_listing.specs.ViewLookups.{entries_named};
 ghost use Rattle.album_listing.specs.Fields.{title_field, content_field};
 ghost use Rattle.album_listing.specs.declared.rows.Row.{Row};
+ghost use Rattle.album_permits.specs.Attributes.{attributes_of};
+ghost use Rattle.album_permits.specs.Changes.{with_content, with_members, with_children};
 ghost use Rattle.album_permits.specs.Permits.{PermitState, IsPermit};
 ghost use Rattle.album_permits.specs.Rights.{is_granted_to, IsGrantedChange, IsRewritten};
 ghost use Rattle.album_permits.specs.Serving.{IsServed};
+ghost use Rattle.album_permits.specs.declared.attributes.Attributes.{Attributes};
 ghost use Rattle.album_permits.specs.declared.serving.Served.TheVariants as served;
 
 /// A law: nothing of an item is changed without the right to change it, whatever is asked.
@@ -39,4 +42,23 @@ pub fn what_is_served_is_granted()
         → IsPermit permit → IsServed permit (served.Entries object of stamp entries)
         → IsTrue (is_granted_to permit object READ_ACL)
         × (entries_named (seen permit.view.rows) object ≡ entries) }
+    ensures head { (permit : PermitState) (object stamp : ℕ) (attributes : Attributes)
+        → IsPermit permit → IsServed permit (served.Head object stamp attributes)
+        → IsTrue (is_granted_to permit object READ_ATTRIBUTES)
+        × (attributes_of (seen permit.view.rows object) ≡ attributes) }
+    ensures children { (permit : PermitState) (album stamp : ℕ) (children : List ℕ)
+        → IsPermit permit → IsServed permit (served.Children album stamp children)
+        → IsTrue (is_granted_to permit album LIST_DIRECTORY)
+        × (children_of (seen permit.view.rows album) ≡ children) }
+{}
+
+/// A law: what an object is by its attributes stays, whatever it holds. Another content changes nothing of it, nor do
+/// as many other children or members.
+pub fn heads_show_no_contents()
+    ensures content { (value : Value) (content : List ℕ)
+        → attributes_of (with_content content value) ≡ attributes_of value }
+    ensures children { (value : Value) (children : List ℕ) → length children ≡ length (children_of value)
+        → attributes_of (with_children children value) ≡ attributes_of value }
+    ensures members { (value : Value) (members : List Member) → length members ≡ length (members_of value)
+        → attributes_of (with_members members value) ≡ attributes_of value }
 {}

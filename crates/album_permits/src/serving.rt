@@ -7,8 +7,9 @@ ghost use Rattle.album_views.specs.declared.asks.Ask.TheVariants as Ask;
 ghost use Rattle.album_listing.specs.ViewLookups.{entries_named};
 ghost use Rattle.album_permits.specs.Serving.{read_of, IsServed, IsServedFor};
 
+use crate::attributes::{Attributes, attributes_of};
 use crate::permits::Permit;
-use album_items::{Content, ItemId, Members, Title, Value};
+use album_items::{Content, ItemId, Items, Members, Title, Value};
 use album_listing::{Rows, ViewLookup, list};
 use album_lists::AccessList;
 use album_stamps::{Refusal, Refused, Stamp};
@@ -41,6 +42,18 @@ pub enum Served {
         album: ItemId,
         stamp: Stamp,
         rows: Rows,
+    },
+    /// Whose the object is and what it is called.
+    Head {
+        object: ItemId,
+        stamp: Stamp,
+        attributes: Attributes,
+    },
+    /// All children of the album, in order.
+    Children {
+        album: ItemId,
+        stamp: Stamp,
+        children: Items,
     },
 }
 
@@ -79,9 +92,12 @@ fn serve_ask(alloc: Global, permit: &Permit) -> Result<Served, Refusal>
         Ask::Read { object } => object_served(alloc, permit, *object),
         Ask::List { album } => rows_served(alloc, permit, *album),
         Ask::GetList { object } => list_served(alloc, permit, *object),
+        Ask::Head { object } => head_served(alloc, permit, *object),
+        Ask::Children { album } => children_served(alloc, permit, *album),
         // The ask of a permit that is served writes nothing, and these write.
-        Ask::AddPicture { .. } | Ask::AddAlbum { .. } | Ask::Retitle { .. } => unreachable!(),
-        Ask::Replace { .. } | Ask::Delete { .. } | Ask::Move { .. } => unreachable!(),
+        Ask::AddPicture { .. } | Ask::AddAlbum { .. } | Ask::AddGroup { .. } => unreachable!(),
+        Ask::Retitle { .. } | Ask::Replace { .. } => unreachable!(),
+        Ask::Delete { .. } | Ask::Move { .. } => unreachable!(),
         Ask::SetLists { .. } | Ask::SetOwner { .. } | Ask::SetMembers { .. } => unreachable!(),
         Ask::Share { .. } => unreachable!(),
     }
@@ -109,6 +125,38 @@ fn rows_served(alloc: Global, permit: &Permit, album: ItemId) -> Result<Served, 
     drop(lookup);
     let rows = list(alloc, permit.view(), permit.principal())?;
     Ok(Served::Listed { album, stamp, rows })
+}
+
+/// The attributes of the object.
+fn head_served(alloc: Global, permit: &Permit, object: ItemId) -> Result<Served, Refusal>
+    ensures served { IfOk result (λ served. IsServedFor permit.now served (Ask.Head object)) }
+    ensures memory { IsOkUnless result Refusal.OutOfMemory }
+{
+    let lookup = ViewLookup::of(alloc, permit.view());
+    let stamp = lookup.stamp(object);
+    let attributes = attributes_of(lookup.value(object));
+    drop(lookup);
+    Ok(Served::Head {
+        object,
+        stamp,
+        attributes: attributes?,
+    })
+}
+
+/// The children of the album.
+fn children_served(alloc: Global, permit: &Permit, album: ItemId) -> Result<Served, Refusal>
+    ensures served { IfOk result (λ served. IsServedFor permit.now served (Ask.Children album)) }
+    ensures memory { IsOkUnless result Refusal.OutOfMemory }
+{
+    let lookup = ViewLookup::of(alloc, permit.view());
+    let stamp = lookup.stamp(album);
+    let children = Vec::from_slice(alloc, lookup.value(album).children());
+    drop(lookup);
+    Ok(Served::Children {
+        album,
+        stamp,
+        children: Items::of(children?),
+    })
 }
 
 /// The list of the object, with its own stamp.

@@ -235,6 +235,8 @@ module _ (shown : ℕ → Value) (me : Principal) (stamp : ℕ) (low : (item : �
   written_low (ask.Read object) h = tt
   written_low (ask.List object) h = tt
   written_low (ask.GetList object) h = tt
+  written_low (ask.Head object) h = tt
+  written_low (ask.Children object) h = tt
   written_low (ask.AddPicture into title content) h = (
     and_both (is_low stamp stamp) (is_low stamp (number_of into)) own_low (le-leb (number_of into) stamp (h into (first into []))),
     (
@@ -261,6 +263,7 @@ module _ (shown : ℕ → Value) (me : Principal) (stamp : ℕ) (low : (item : �
       ),
     ),
   )
+  written_low (ask.AddGroup into members) h = (own_low, (refl, tt))
   written_low (ask.Retitle object title) h = (titled_low stamp title (shown object) (low object), tt)
   written_low (ask.Replace object content) h = (filled_low stamp content (shown object) (low object), tt)
   written_low (ask.Delete object) h = (
@@ -369,7 +372,7 @@ module _ (o : Opening) (w : World) (right : list_all (is_low_row (greatest_numbe
       there_is object c = (sees object).own (changed_there by.permit (granted by begun).granted object c)
 
       item_low : (item : ℕ) → MayWrite (seen by.permit.view.rows) by.stamp by.permit.view.ask item → number_of item ≤ by.stamp
-      item_low item (New new adding c) = let e : number_of item ≡ by.stamp = new_number by.stamp item c in omega (arith, e)
+      item_low item (New new c) = let e : number_of item ≡ by.stamp = new_number by.permit.view.ask by.stamp item c in omega (arith, e)
       item_low item (Object object c) = there_is object c
       item_low item (ListOf object other c whose) =
           low_lists by.stamp (seen by.permit.view.rows object) (sees object).numbers item whose

@@ -4,7 +4,7 @@ ghost use Rattle.std.specs.Prelude.{IfOk, IfSome};
 ghost use Rattle.album_views.specs.Steps.{AreReadable};
 
 use album_items::{ItemId, Items};
-use album_views::Ask;
+use album_views::{Ask, Relatives};
 use std::alloc::Global;
 use std::sync::Mutex;
 
@@ -13,16 +13,6 @@ pub const MAX_HINTS: usize = 4_096;
 
 /// How many asks a hint serves. Then an ask finds its items by itself again, since a hint may name more than it needs.
 const MAX_USES: u16 = 1_000;
-
-/// Which relatives of its objects an ask looks at.
-#[derive(Clone, Copy, PartialEq, Eq)]
-enum Relatives {
-    None,
-    /// The home of a picture.
-    Home,
-    /// The children of an album.
-    Children,
-}
 
 /// What asks have in common that look at the same items: their object, and which relatives they look at. An ask of
 /// several objects has none, and so no hint: what it looks at for one object is nothing that another ask needs.
@@ -37,7 +27,7 @@ impl Topic {
     pub(crate) fn of(ask: &Ask) -> Topic {
         Topic {
             object: only_object(ask),
-            relatives: relatives_of(ask),
+            relatives: ask.relatives(),
         }
     }
 
@@ -47,7 +37,7 @@ impl Topic {
             (Some(one), Some(other)) => one.is(other),
             _ => false,
         };
-        same_object && self.relatives == other.relatives
+        same_object && place(self.relatives) == place(other.relatives)
     }
 
     /// The index of its hint: below `MAX_HINTS`, far apart for numbers that follow each other.
@@ -55,12 +45,8 @@ impl Topic {
         let Some(object) = self.object else {
             return 0;
         };
-        let place = match self.relatives {
-            Relatives::None => 0,
-            Relatives::Home => 4,
-            Relatives::Children => 8,
-        };
-        let word = object.number().wrapping_mul(16) ^ (place + u64::from(object.kind().code()));
+        let place = place(self.relatives) | u64::from(object.kind().code());
+        let word = object.number().wrapping_mul(16) ^ place;
         (word.wrapping_mul(0x9E37_79B9_7F4A_7C15) >> 52) as usize
     }
 }
@@ -176,8 +162,11 @@ fn only_object(ask: &Ask) -> Option<ItemId> {
         Ask::Read { object } => Some(*object),
         Ask::List { album } => Some(*album),
         Ask::GetList { object } => Some(*object),
+        Ask::Head { object } => Some(*object),
+        Ask::Children { album } => Some(*album),
         Ask::AddPicture { album, .. } => Some(*album),
         Ask::AddAlbum { album, .. } => Some(*album),
+        Ask::AddGroup { album, .. } => Some(*album),
         Ask::Retitle { object, .. } => Some(*object),
         Ask::Replace { object, .. } => Some(*object),
         Ask::Delete { object } => Some(*object),
@@ -191,15 +180,11 @@ fn only_object(ask: &Ask) -> Option<ItemId> {
     }
 }
 
-/// Which relatives of its objects the ask looks at.
-fn relatives_of(ask: &Ask) -> Relatives {
-    match ask {
-        Ask::Delete { .. } => Relatives::Home,
-        Ask::List { .. } => Relatives::Children,
-        Ask::Read { .. } | Ask::GetList { .. } => Relatives::None,
-        Ask::AddPicture { .. } | Ask::AddAlbum { .. } => Relatives::None,
-        Ask::Retitle { .. } | Ask::Replace { .. } => Relatives::None,
-        Ask::SetLists { .. } | Ask::SetOwner { .. } | Ask::SetMembers { .. } => Relatives::None,
-        Ask::Move { .. } | Ask::Share { .. } => Relatives::None,
+/// What tells topics of one object apart: an ask that looks at the home or the children looks at more.
+fn place(relatives: Relatives) -> u64 {
+    match relatives {
+        Relatives::None => 0,
+        Relatives::HomeOf(_) => 4,
+        Relatives::ChildrenOf(_) => 8,
     }
 }

@@ -142,8 +142,11 @@ same-written :
 same-written shown stamp user (ask.Read object) = refl
 same-written shown stamp user (ask.List album) = refl
 same-written shown stamp user (ask.GetList object) = refl
+same-written shown stamp user (ask.Head object) = refl
+same-written shown stamp user (ask.Children album) = refl
 same-written shown stamp user (ask.AddPicture into title content) = refl
 same-written shown stamp user (ask.AddAlbum into title) = refl
+same-written shown stamp user (ask.AddGroup into members) = refl
 same-written shown stamp user (ask.Retitle object title) = refl
 same-written shown stamp user (ask.Replace object content) = refl
 same-written shown stamp user (ask.Delete object) = refl

@@ -126,10 +126,13 @@ module _ (shown : ℕ → Value) (p : Principal) (stamp : ℕ) where
   all-keep (ask.Read object) room = tt
   all-keep (ask.List object) room = tt
   all-keep (ask.GetList object) room = tt
+  all-keep (ask.Head object) room = tt
+  all-keep (ask.Children object) room = tt
   all-keep (ask.AddPicture into title content) room =
       (λ few. omega arith, (λ few. omega arith, (λ few. few-child (picture stamp) (shown into) room, tt)))
   all-keep (ask.AddAlbum into title) room =
       (λ few. omega arith, (λ few. omega arith, (λ few. few-child (album stamp) (shown into) room, tt)))
+  all-keep (ask.AddGroup into members) room = (λ few. omega arith, (λ few. omega arith, tt))
   all-keep (ask.Retitle object title) room =
       (λ few. same-many (shown object) (with_title title (shown object)) (title-kept title (shown object)) few, tt)
   all-keep (ask.Replace object content) room =

@@ -27,4 +27,6 @@ pub fn what_passes_fits()
     ensures groups { (lists : List NewList) (members : List NewMembership) (new : NewMembership)
         → flaw_of (ask.Share lists members) ≡ None
         → Contains members new → length new.members ≤ MAX_MEMBERS }
+    ensures made { (into : ℕ) (members : List Member)
+        → flaw_of (ask.AddGroup into members) ≡ None → length members ≤ MAX_MEMBERS }
 {}

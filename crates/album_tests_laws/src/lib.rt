@@ -35,7 +35,7 @@ pub use needing::{
 pub use opening::what_is_drawn_is_named_by_no_opening;
 pub use serving::what_is_served_has_its_stamp;
 pub use writing::{
-    a_deletion_is_as_asked, a_move_is_as_asked, additions_are_as_asked, contents_are_as_asked,
-    lists_are_as_asked, members_are_as_asked, owners_are_as_asked, root_writes_as_the_user,
-    shares_are_as_asked, titles_are_as_asked,
+    a_deletion_is_as_asked, a_move_is_as_asked, a_new_group_is_as_asked, additions_are_as_asked,
+    contents_are_as_asked, lists_are_as_asked, members_are_as_asked, owners_are_as_asked,
+    root_writes_as_the_user, shares_are_as_asked, titles_are_as_asked,
 };

@@ -14,7 +14,7 @@ ghost use Rattle.album_views.specs.declared.asks.Ask.TheVariants as ask;
 ghost use Rattle.album_views.specs.declared.asks.NewList.{NewList};
 ghost use Rattle.album_views.specs.declared.asks.NewMembership.{NewMembership};
 ghost use Rattle.album_listing.specs.Basis.{Basis};
-ghost use Rattle.album_listing.specs.Masks.{READ_DATA, WRITE_DATA, LIST_DIRECTORY, ADD_FILE, ADD_SUBDIRECTORY, DELETE_CHILD, WRITE_ATTRIBUTES, DELETE, READ_ACL, WRITE_ACL, WRITE_OWNER};
+ghost use Rattle.album_listing.specs.Masks.{READ_DATA, WRITE_DATA, LIST_DIRECTORY, ADD_FILE, ADD_SUBDIRECTORY, DELETE_CHILD, READ_ATTRIBUTES, WRITE_ATTRIBUTES, DELETE, READ_ACL, WRITE_ACL, WRITE_OWNER};
 ghost use Rattle.album_listing.specs.Reasons.{is_granted_on};
 ghost use Rattle.album_permits.specs.Findings.{ruling_of};
 ghost use Rattle.album_permits.specs.declared.findings.Finding.TheVariants.{Granted};
@@ -28,12 +28,18 @@ pub fn an_ask_needs_its_right()
         → (ruling_of basis (ask.List into) ≡ Granted) ↔ IsTrue (is_granted_on basis into LIST_DIRECTORY) }
     ensures entries { (basis : Basis) (object : ℕ)
         → (ruling_of basis (ask.GetList object) ≡ Granted) ↔ IsTrue (is_granted_on basis object READ_ACL) }
+    ensures head { (basis : Basis) (object : ℕ)
+        → (ruling_of basis (ask.Head object) ≡ Granted) ↔ IsTrue (is_granted_on basis object READ_ATTRIBUTES) }
+    ensures children { (basis : Basis) (into : ℕ)
+        → (ruling_of basis (ask.Children into) ≡ Granted) ↔ IsTrue (is_granted_on basis into LIST_DIRECTORY) }
     ensures picture { (basis : Basis) (into : ℕ) (title content : List ℕ)
         → (ruling_of basis (ask.AddPicture into title content) ≡ Granted)
         ↔ IsTrue (is_granted_on basis into ADD_FILE) }
     ensures album { (basis : Basis) (into : ℕ) (title : List ℕ)
         → (ruling_of basis (ask.AddAlbum into title) ≡ Granted)
         ↔ IsTrue (is_granted_on basis into ADD_SUBDIRECTORY) }
+    ensures group { (basis : Basis) (into : ℕ) (members : List Member)
+        → (ruling_of basis (ask.AddGroup into members) ≡ Granted) ↔ IsTrue (is_granted_on basis into WRITE_ACL) }
     ensures title { (basis : Basis) (object : ℕ) (title : List ℕ)
         → (ruling_of basis (ask.Retitle object title) ≡ Granted)
         ↔ IsTrue (is_granted_on basis object WRITE_ATTRIBUTES) }
@@ -76,8 +82,8 @@ pub fn a_share_needs_each_right()
         && list_all (λ (new : NewMembership). is_granted_on basis new.object WRITE_DATA) members) }
 {}
 
-/// A law: by policy 3 whoever has on an object what its owner has reads its list and sets it, whatever the list says
-/// and whatever groups there are. Root has that on each object that is there.
+/// A law: by policy 3 whoever has on an object what its owner has reads its list, sets it, and makes groups for it,
+/// whatever the list says and whatever groups there are. Root has that on each object that is there.
 pub fn owners_are_never_locked_out()
     ensures entries { (basis : Basis) (object : ℕ)
         → basis.policy ≡ Three → is_owned_by basis.principal (basis.seen object) ≡ true
@@ -86,6 +92,9 @@ pub fn owners_are_never_locked_out()
         → basis.policy ≡ Three
         → ((new : NewList) → Contains lists new → is_owned_by basis.principal (basis.seen new.object) ≡ true)
         → ruling_of basis (ask.SetLists lists) ≡ Granted }
+    ensures group { (basis : Basis) (into : ℕ) (members : List Member)
+        → basis.policy ≡ Three → is_owned_by basis.principal (basis.seen into) ≡ true
+        → ruling_of basis (ask.AddGroup into members) ≡ Granted }
     ensures root { (basis : Basis) (object : ℕ) (head : Head) (user : List ℕ)
         → basis.principal ≡ Root user → head_of (basis.seen object) ≡ Some head
         → is_owned_by basis.principal (basis.seen object) ≡ true }

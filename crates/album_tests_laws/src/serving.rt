@@ -11,6 +11,7 @@ ghost use Rattle.album_views.specs.Seen.{seen};
 ghost use Rattle.album_listing.specs.declared.rows.Row.{Row};
 ghost use Rattle.album_permits.specs.Permits.{PermitState};
 ghost use Rattle.album_permits.specs.Serving.{IsServed};
+ghost use Rattle.album_permits.specs.declared.attributes.Attributes.{Attributes};
 ghost use Rattle.album_permits.specs.declared.serving.Served.TheVariants as served;
 
 /// A law: what is served has the stamp of the version that was read: of the picture, the group or the album, and of its
@@ -24,6 +25,12 @@ pub fn what_is_served_has_its_stamp()
         → version_read permit.view.rows object ≡ Some (read, is) → stamp ≡ read }
     ensures listed { (permit : PermitState) (album stamp read : ℕ) (is : Value) (rows : List Row)
         → IsServed permit (served.Listed album stamp rows)
+        → version_read permit.view.rows album ≡ Some (read, is) → stamp ≡ read }
+    ensures head { (permit : PermitState) (object stamp read : ℕ) (is : Value) (attributes : Attributes)
+        → IsServed permit (served.Head object stamp attributes)
+        → version_read permit.view.rows object ≡ Some (read, is) → stamp ≡ read }
+    ensures children { (permit : PermitState) (album stamp read : ℕ) (is : Value) (children : List ℕ)
+        → IsServed permit (served.Children album stamp children)
         → version_read permit.view.rows album ≡ Some (read, is) → stamp ≡ read }
     ensures entries { (permit : PermitState) (object of stamp read : ℕ) (is : Value) (head : Head) (entries : List Ace)
         → IsServed permit (served.Entries object of stamp entries)

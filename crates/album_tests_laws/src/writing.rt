@@ -3,7 +3,9 @@
 ghost use Rattle.std.specs.Prelude.{◌≡◌, ◌≢◌, ◌⊎◌, ◌++◌, ◌∷◌, [], ◌==◌, not, ℕ, List, Some, Contains, filter};
 ghost use Rattle.album_lists.specs.Inheritance.{inherited};
 ghost use Rattle.album_lists.specs.declared.lists.Ace.{Ace};
+ghost use Rattle.album_access.specs.declared.types.AceType.TheVariants.{Allowed};
 ghost use Rattle.album_lists.specs.declared.lists.Holder.TheVariants.{Plain, Folder};
+ghost use Rattle.album_lists.specs.declared.whos.Who.TheVariants.{Owner};
 ghost use Rattle.album_lists.specs.declared.whos.Member.{Member};
 ghost use Rattle.album_eval.specs.declared.facts.Principal.TheVariants as principal;
 ghost use Rattle.album_items.specs.ItemIds.{picture, album, list, group};
@@ -156,6 +158,33 @@ pub fn additions_are_as_asked()
           value.Album (record into {
             children = filter (λ child. not (album stamp == child)) into.children ++ album stamp ∷ [];
           }),
+        )
+        ∷ [] }
+{}
+
+/// A law: a group that is made for an album has the members that are asked. It is the principal's, in the album's head
+/// group, and by its list its owner has all rights, and nobody else has any. The album isn't written.
+pub fn a_new_group_is_as_asked()
+    ensures { (permit : PermitState) (stamp number : ℕ) (members : List Member) (user : List ℕ) (into : Album)
+        → permit.view.ask ≡ ask.AddGroup (album number) members
+        → permit.principal ≡ principal.User user
+        → seen permit.view.rows (album number) ≡ value.Album into
+        → effect_of permit stamp
+        ≡ (
+          group stamp,
+          value.Group (record {
+            head = record { owner = user; group = into.head.group; list = stamp };
+            members = members;
+          }),
+        )
+        ∷ (
+          list stamp,
+          value.List (record {
+            sort = Allowed;
+            who = Owner;
+            mask = record { 0 = 2032127 };
+            flags = record { 0 = 0 };
+          } ∷ []),
         )
         ∷ [] }
 {}

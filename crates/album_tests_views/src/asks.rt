@@ -13,8 +13,11 @@ pub enum Verb {
     Read,
     List,
     GetList,
+    Head,
+    Children,
     AddPicture,
     AddAlbum,
+    AddGroup,
     Retitle,
     Replace,
     Delete,
@@ -90,6 +93,12 @@ fn add_album(alloc: Global, album: ItemId) -> Result<Ask, Refusal> {
     Ok(Ask::AddAlbum { album, title })
 }
 
+/// A new group of so many members.
+pub fn add_group(alloc: Global, album: ItemId, len: u64) -> Result<Ask, Refusal> {
+    let members = groups(alloc, 1000, len)?;
+    Ok(Ask::AddGroup { album, members })
+}
+
 fn retitle(alloc: Global, object: ItemId) -> Result<Ask, Refusal> {
     let title = Title::of(alloc, "Bay")?;
     Ok(Ask::Retitle { object, title })
@@ -116,8 +125,11 @@ pub fn ask_of(alloc: Global, verb: Verb, text: &str) -> Result<Ask, Refusal> {
         Verb::Read => Ok(Ask::Read { object: item }),
         Verb::List => Ok(Ask::List { album: item }),
         Verb::GetList => Ok(Ask::GetList { object: item }),
+        Verb::Head => Ok(Ask::Head { object: item }),
+        Verb::Children => Ok(Ask::Children { album: item }),
         Verb::AddPicture => add_picture(alloc, item),
         Verb::AddAlbum => add_album(alloc, item),
+        Verb::AddGroup => add_group(alloc, item, 2),
         Verb::Retitle => retitle(alloc, item),
         Verb::Replace => replace(item),
         Verb::Delete => Ok(Ask::Delete { object: item }),

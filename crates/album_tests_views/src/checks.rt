@@ -1,6 +1,6 @@
 //! Calls of `Ask::check` that no line reaches, and copies of asks (docs/PROTOCOL.md, "Asks"). Which kinds of objects
 //! each ask allows is shown by lines, in `rows/replay/kinds_of_objects.jsonl`: add such a test there.
-use crate::asks::{Verb, ask_of, set_members, share};
+use crate::asks::{Verb, add_group, ask_of, set_members, share};
 use album_eval::Principal;
 use album_items::{ItemId, Kind};
 use album_stamps::Refusal;
@@ -18,6 +18,20 @@ fn members_checked(alloc: Global, len: u64) -> Result<(), Refusal> {
 #[test]
 fn a_group_has_128_members_at_most(rt: HostRuntime) {
     assert_eq!(rt; members_checked(rt.alloc(), 129), Err(Refusal::ListFull));
+}
+
+fn group_checked(alloc: Global, len: u64) -> Result<(), Refusal> {
+    let ask = add_group(alloc, ItemId::new(Kind::Album, 1), len)?;
+    let checked = ask.check(&Principal::Anonymous);
+    drop(ask);
+    checked
+}
+
+/// So has a new group. Whether somebody without a name may make one is tested after that.
+#[test]
+fn a_new_group_has_128_members_at_most(rt: HostRuntime) {
+    assert_eq!(rt; group_checked(rt.alloc(), 128), Err(Refusal::NoOwner));
+    assert_eq!(rt; group_checked(rt.alloc(), 129), Err(Refusal::ListFull));
 }
 
 fn share_checked(alloc: Global, len: u64) -> Result<(), Refusal> {
@@ -39,8 +53,11 @@ const VERBS: &[Verb] = &[
     Verb::Read,
     Verb::List,
     Verb::GetList,
+    Verb::Head,
+    Verb::Children,
     Verb::AddPicture,
     Verb::AddAlbum,
+    Verb::AddGroup,
     Verb::Retitle,
     Verb::Replace,
     Verb::Delete,

@@ -52,10 +52,12 @@ fn writes_of(alloc: Global, asked: Asked) -> Result<Writes, Refusal> {
     write(alloc, permit, stamp)
 }
 
-/// A picture that its owner may do anything to, and its list.
+/// A picture and an album that their owner may do anything to, with their lists.
 const STORE: Store = &[
     ("picture/0", Is::Picture(0)),
     ("list/0", Is::List(&[(ALLOW, "OWNER@", 2_032_127, 0)])),
+    ("album/0", Is::Album(1)),
+    ("list/1", Is::List(&[(ALLOW, "OWNER@", 2_032_127, 0)])),
 ];
 
 fn is_amy(principal: &Principal) -> bool {
@@ -81,5 +83,7 @@ fn spent(alloc: Global, asked: Asked) -> Result<(u64, bool, usize), Refusal> {
 #[test]
 fn writes_keep_their_permit(rt: HostRuntime) {
     let asked: Asked = (STORE, AMY, Verb::Retitle, "picture/0");
+    assert_eq!(rt; spent(rt.alloc(), asked), Ok((720_898, true, 3)));
+    let asked: Asked = (STORE, AMY, Verb::AddGroup, "album/0");
     assert_eq!(rt; spent(rt.alloc(), asked), Ok((720_898, true, 3)));
 }

@@ -7,7 +7,7 @@ ghost use Rattle.album_views.specs.Asks.{is_write};
 use crate::asks::Verb;
 use crate::ruling::permit_of;
 use crate::store::{ALLOW, AMY, Is, Store};
-use album_permits::{Permit, Served};
+use album_permits::{Attributes, Permit, Served};
 use album_stamps::{Refusal, Refused};
 use std::alloc::Global;
 use std::fmt::Debug;
@@ -25,7 +25,8 @@ pub fn is_as_before<T: Debug>(alloc: Global, value: &T, before: &Result<String, 
     }
 }
 
-/// amy's picture, whose list lets her do anything, and others read.
+/// amy's picture, whose list lets her do anything, and others read; and an album of hers, with all the children that it
+/// may have.
 const STORE: Store = &[
     ("picture/0", Is::Picture(0)),
     (
@@ -35,6 +36,8 @@ const STORE: Store = &[
             (ALLOW, "EVERYONE@", 129, 0),
         ]),
     ),
+    ("album/0", Is::Album(1)),
+    ("list/1", Is::List(&[(ALLOW, "OWNER@", 1, 0)])),
 ];
 
 /// The refusal; the permit is given back.
@@ -77,28 +80,42 @@ fn served_by(alloc: Global, permit: Permit) -> Result<Served, Refusal> {
     serve(alloc, permit)
 }
 
-/// How much is served: the bytes of a title, the members of a group, the entries of a list, or the rows of an album.
+/// How much is served: the bytes of a title, the members of a group, the entries of a list, or the rows or the children
+/// of an album.
 fn amount(served: &Served) -> usize {
     match served {
         Served::Picture { title, .. } => title.as_str().len(),
         Served::Group { members, .. } => members.as_slice().len(),
         Served::Entries { list, .. } => list.entries().len(),
         Served::Listed { rows, .. } => rows.as_slice().len(),
+        Served::Head { attributes, .. } => amount_of(attributes),
+        Served::Children { children, .. } => children.as_slice().len(),
     }
 }
 
-/// How much amy is served of what she asks of the picture.
-fn served(alloc: Global, verb: Verb) -> Result<usize, Refusal> {
-    let permit = permit_of(alloc, (STORE, AMY, verb, "picture/0"))?;
+fn amount_of(attributes: &Attributes) -> usize {
+    match attributes {
+        Attributes::Nothing => 0,
+        Attributes::Picture { title, .. } => title.as_str().len(),
+        Attributes::Album { title, .. } => title.as_str().len(),
+        Attributes::Group { count, .. } => *count,
+    }
+}
+
+/// How much amy is served of what she asks of the item.
+fn served(alloc: Global, verb: Verb, item: &'static str) -> Result<usize, Refusal> {
+    let permit = permit_of(alloc, (STORE, AMY, verb, item))?;
     let served = served_by(alloc, permit)?;
     let amount = amount(&served);
     drop(served);
     Ok(amount)
 }
 
-/// The title "Sea", and two entries.
+/// The title "Sea", and two entries; and the title in the head.
 #[test]
 fn a_refused_permit_is_served_again(rt: HostRuntime) {
-    assert_eq!(rt; served(rt.alloc(), Verb::Read), Ok(3));
-    assert_eq!(rt; served(rt.alloc(), Verb::GetList), Ok(2));
+    assert_eq!(rt; served(rt.alloc(), Verb::Read, "picture/0"), Ok(3));
+    assert_eq!(rt; served(rt.alloc(), Verb::GetList, "picture/0"), Ok(2));
+    assert_eq!(rt; served(rt.alloc(), Verb::Head, "picture/0"), Ok(3));
+    assert_eq!(rt; served(rt.alloc(), Verb::Children, "album/0"), Ok(128));
 }

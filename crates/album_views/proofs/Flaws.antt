@@ -12,7 +12,7 @@ use Rattle.album_stamps.specs.declared.limits.TheConstants.{MAX_TRANSACTION_ITEM
 use Rattle.album_items.specs.declared.item_ids.Kind.TheVariants.{Group}
 use Rattle.album_views.specs.Asks.{Wanted, want, headed, wanted, once, objects_of}
 use Rattle.album_views.specs.Steps.{AreReadable}
-use Rattle.album_views.specs.Checks.{is_one_of, has_kinds, has_single_objects, same_object, same_group, has_room, has_fitting_lists, flaw_of}
+use Rattle.album_views.specs.Checks.{is_one_of, has_kinds, has_single_objects, same_object, same_group, is_room_for, has_room, has_fitting_lists, flaw_of}
 use Rattle.album_views.specs.declared.asks.Ask.{Ask}
 use Rattle.album_views.specs.declared.asks.Ask.TheVariants as ask
 use Rattle.album_views.specs.declared.asks.NewList.{NewList}
@@ -143,6 +143,14 @@ group-shared lists members object c =
     has-Contains (once (list_objects lists ++ groups members)) object
     (all-new [] (list_objects lists ++ groups members) object
     (in-right (list_objects lists) (groups members) object (Contains-has (groups members) object c)))
+
+-- the members that a share sets, of each group
+pub room_share :
+    (members : List NewMembership)
+    → list_all is_room_for (map (λ (new : NewMembership). new.members) members)
+    ≡ list_all (λ (new : NewMembership). is_room_for new.members) members
+room_share [] = refl
+room_share (new ∷ members) = ap (λ (b : Bool). is_room_for new.members && b) (room_share members)
 
 -- where there is an item, there is one once
 some_once : (items : List ℕ) → length items ≢ 0 → length (once items) ≢ 0

@@ -43,29 +43,35 @@ same_object a b = a.object == b.object
 abbrev pub same_group : NewMembership → NewMembership → Bool
 same_group a b = a.object == b.object
 
--- the members that groups are to have
-abbrev pub new_members : Ask → List NewMembership
+-- the members that groups are to have, of each group
+abbrev pub new_members : Ask → List (List Member)
 new_members (ask.Read object) = []
 new_members (ask.List album) = []
 new_members (ask.GetList object) = []
+new_members (ask.Head object) = []
+new_members (ask.Children album) = []
 new_members (ask.AddPicture album title content) = []
 new_members (ask.AddAlbum album title) = []
+new_members (ask.AddGroup album members) = members ∷ []
 new_members (ask.Retitle object title) = []
 new_members (ask.Replace object content) = []
 new_members (ask.Delete object) = []
 new_members (ask.Move object to) = []
 new_members (ask.SetLists lists) = []
 new_members (ask.SetOwner object owner group) = []
-new_members (ask.SetMembers object members) = record { object = object; members = members } ∷ []
-new_members (ask.Share lists members) = members
+new_members (ask.SetMembers object members) = members ∷ []
+new_members (ask.Share lists members) = map (λ (new : NewMembership). new.members) members
 
 -- the lists that objects are to have
 abbrev pub new_lists : Ask → List NewList
 new_lists (ask.Read object) = []
 new_lists (ask.List album) = []
 new_lists (ask.GetList object) = []
+new_lists (ask.Head object) = []
+new_lists (ask.Children album) = []
 new_lists (ask.AddPicture album title content) = []
 new_lists (ask.AddAlbum album title) = []
+new_lists (ask.AddGroup album members) = []
 new_lists (ask.Retitle object title) = []
 new_lists (ask.Replace object content) = []
 new_lists (ask.Delete object) = []
@@ -81,7 +87,7 @@ is_room_for members = nat_le (length members) MAX_MEMBERS
 
 -- each group has room for its members
 abbrev pub has_room : Ask → Bool
-has_room ask = list_all (λ (new : NewMembership). is_room_for new.members) (new_members ask)
+has_room ask = list_all is_room_for (new_members ask)
 
 -- what carries the list of an item: an album is a folder
 abbrev pub holder_of : ℕ → Holder

@@ -12,26 +12,21 @@ use Rattle.album_items.specs.declared.values.Head.{Head}
 use Rattle.album_items.specs.declared.values.Value.{Value}
 use Rattle.album_reader.specs.Answers.{ReadVersion}
 use Rattle.album_views.specs.declared.asks.Ask.{Ask}
-use Rattle.album_views.specs.declared.asks.Ask.TheVariants as ask
-use Rattle.album_views.specs.Asks.{once, objects_of, needs_list_alone}
+use Rattle.album_views.specs.declared.deeds.Relatives.{Relatives}
+use Rattle.album_views.specs.declared.deeds.Relatives.TheVariants as relatives
+use Rattle.album_views.specs.Asks.{once, objects_of, relatives_named, needs_list_alone}
 use Rattle.album_views.specs.Seen.{seen}
+
+-- the home of a picture, or the children of an album
+abbrev pub relatives_in : (ℕ → Value) → Relatives → List ℕ
+relatives_in seen relatives.None = []
+relatives_in seen (relatives.HomeOf picture) = home_of (seen picture)
+relatives_in seen (relatives.ChildrenOf album) = children_of (seen album)
 
 -- what an ask looks at in addition to its objects: the home of a picture that is deleted or moved, the children of an
 -- album that is listed
 abbrev pub relatives_of : (ℕ → Value) → Ask → List ℕ
-relatives_of seen (ask.Read object) = []
-relatives_of seen (ask.List album) = children_of (seen album)
-relatives_of seen (ask.GetList object) = []
-relatives_of seen (ask.AddPicture album title content) = []
-relatives_of seen (ask.AddAlbum album title) = []
-relatives_of seen (ask.Retitle object title) = []
-relatives_of seen (ask.Replace object content) = []
-relatives_of seen (ask.Delete object) = home_of (seen object)
-relatives_of seen (ask.Move object to) = home_of (seen object)
-relatives_of seen (ask.SetLists lists) = []
-relatives_of seen (ask.SetOwner object owner group) = []
-relatives_of seen (ask.SetMembers object members) = []
-relatives_of seen (ask.Share lists members) = []
+relatives_of seen ask = relatives_in seen (relatives_named ask)
 
 -- what is ruled on: the objects of the ask, and these
 abbrev pub subjects_of : (ℕ → Value) → Ask → List ℕ

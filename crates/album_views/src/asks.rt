@@ -1,7 +1,7 @@
 //! What a client asks.
 ghost use Rattle.std.specs.Prelude.{◌≡◌, ◌==◌, ◌++◌, List, IfOk, IsOkUnless, map};
 ghost use Rattle.std.specs.List.{list_any};
-ghost use Rattle.album_views.specs.Asks.{once, objects_of, is_list, is_write, is_adding, needs_list_alone};
+ghost use Rattle.album_views.specs.Asks.{once, objects_of, needs_list_alone};
 
 use album_items::{Content, ItemId, Members, Title};
 use album_lists::{AccessList, Name};
@@ -119,6 +119,15 @@ pub enum Ask {
     GetList {
         object: ItemId,
     },
+    /// Whose the object is and what it is called, and nothing of what it holds: its owner, its group, its list, its
+    /// title, its home, and how many children or members it has.
+    Head {
+        object: ItemId,
+    },
+    /// The children of an album, all of them, without a look at any.
+    Children {
+        album: ItemId,
+    },
     /// A new picture in the album.
     AddPicture {
         album: ItemId,
@@ -129,6 +138,11 @@ pub enum Ask {
     AddAlbum {
         album: ItemId,
         title: Title,
+    },
+    /// A new group, for the lists of the album and of what is in it.
+    AddGroup {
+        album: ItemId,
+        members: Members,
     },
     /// Another title of a picture or an album.
     Retitle {
@@ -181,8 +195,11 @@ impl Ask {
             Ask::Read { object } => Ok(vec![in alloc; *object]?),
             Ask::List { album } => Ok(vec![in alloc; *album]?),
             Ask::GetList { object } => Ok(vec![in alloc; *object]?),
+            Ask::Head { object } => Ok(vec![in alloc; *object]?),
+            Ask::Children { album } => Ok(vec![in alloc; *album]?),
             Ask::AddPicture { album, .. } => Ok(vec![in alloc; *album]?),
             Ask::AddAlbum { album, .. } => Ok(vec![in alloc; *album]?),
+            Ask::AddGroup { album, .. } => Ok(vec![in alloc; *album]?),
             Ask::Retitle { object, .. } => Ok(vec![in alloc; *object]?),
             Ask::Replace { object, .. } => Ok(vec![in alloc; *object]?),
             Ask::Delete { object } => Ok(vec![in alloc; *object]?),
@@ -196,56 +213,18 @@ impl Ask {
         }
     }
 
-    /// Whether the ask lists an album.
-    pub fn is_list(&self) -> bool
-        ensures { result ≡ is_list self.now }
-    {
-        match self {
-            Ask::List { .. } => true,
-            Ask::Read { .. } | Ask::GetList { .. } => false,
-            Ask::AddPicture { .. } | Ask::AddAlbum { .. } | Ask::Retitle { .. } => false,
-            Ask::Replace { .. } | Ask::Delete { .. } | Ask::Move { .. } => false,
-            Ask::SetLists { .. } | Ask::SetOwner { .. } | Ask::SetMembers { .. } => false,
-            Ask::Share { .. } => false,
-        }
-    }
-
-    /// Whether the ask writes.
-    pub fn is_write(&self) -> bool
-        ensures { result ≡ is_write self.now }
-    {
-        match self {
-            Ask::Read { .. } | Ask::List { .. } | Ask::GetList { .. } => false,
-            Ask::AddPicture { .. } | Ask::AddAlbum { .. } | Ask::Retitle { .. } => true,
-            Ask::Replace { .. } | Ask::Delete { .. } | Ask::Move { .. } => true,
-            Ask::SetLists { .. } | Ask::SetOwner { .. } | Ask::SetMembers { .. } => true,
-            Ask::Share { .. } => true,
-        }
-    }
-
-    /// Whether the ask makes a new object.
-    pub(crate) fn is_adding(&self) -> bool
-        ensures { result ≡ is_adding self.now }
-    {
-        match self {
-            Ask::AddPicture { .. } | Ask::AddAlbum { .. } => true,
-            Ask::Read { .. } | Ask::List { .. } | Ask::GetList { .. } => false,
-            Ask::Retitle { .. } | Ask::Replace { .. } | Ask::Delete { .. } => false,
-            Ask::Move { .. } | Ask::SetLists { .. } => false,
-            Ask::SetOwner { .. } | Ask::SetMembers { .. } | Ask::Share { .. } => false,
-        }
-    }
-
-    /// Whether the ask needs of the object to read or to set its list, and nothing else.
+    /// Whether the ask needs of the object the right to read or to set its list, and no other.
     pub(crate) fn needs_list_alone(&self, object: ItemId) -> bool
         ensures { result ≡ needs_list_alone self.now object }
     {
         match self {
-            Ask::GetList { .. } | Ask::SetLists { .. } => true,
+            Ask::GetList { .. } | Ask::SetLists { .. } | Ask::AddGroup { .. } => true,
             Ask::Share { members, .. } => !has_membership(members.as_slice(), object),
             Ask::Read { .. } | Ask::List { .. } => false,
-            Ask::AddPicture { .. } | Ask::AddAlbum { .. } | Ask::Retitle { .. } => false,
-            Ask::Replace { .. } | Ask::Delete { .. } | Ask::Move { .. } => false,
+            Ask::Head { .. } | Ask::Children { .. } => false,
+            Ask::AddPicture { .. } | Ask::AddAlbum { .. } => false,
+            Ask::Retitle { .. } | Ask::Replace { .. } => false,
+            Ask::Delete { .. } | Ask::Move { .. } => false,
             Ask::SetOwner { .. } | Ask::SetMembers { .. } => false,
         }
     }

@@ -69,8 +69,11 @@ impl Ask {
             Ask::Read { object } => is_one_of(&[Kind::Picture, Kind::Group], *object),
             Ask::List { album } => is_one_of(&[Kind::Album], *album),
             Ask::GetList { object } => is_one_of(&HEADED, *object),
+            Ask::Head { object } => is_one_of(&HEADED, *object),
+            Ask::Children { album } => is_one_of(&[Kind::Album], *album),
             Ask::AddPicture { album, .. } => is_one_of(&[Kind::Album], *album),
             Ask::AddAlbum { album, .. } => is_one_of(&[Kind::Album], *album),
+            Ask::AddGroup { album, .. } => is_one_of(&[Kind::Album], *album),
             Ask::Retitle { object, .. } => is_one_of(&[Kind::Picture, Kind::Album], *object),
             Ask::Replace { object, .. } => is_one_of(&[Kind::Picture], *object),
             Ask::Delete { object } => is_one_of(&[Kind::Picture], *object),
@@ -100,8 +103,9 @@ impl Ask {
             }
             Ask::Move { object, to } => !object.is(*to),
             Ask::Read { .. } | Ask::List { .. } | Ask::GetList { .. } => true,
-            Ask::AddPicture { .. } | Ask::AddAlbum { .. } | Ask::Retitle { .. } => true,
-            Ask::Replace { .. } | Ask::Delete { .. } => true,
+            Ask::Head { .. } | Ask::Children { .. } => true,
+            Ask::AddPicture { .. } | Ask::AddAlbum { .. } | Ask::AddGroup { .. } => true,
+            Ask::Retitle { .. } | Ask::Replace { .. } | Ask::Delete { .. } => true,
             Ask::SetOwner { .. } | Ask::SetMembers { .. } => true,
         }
     }
@@ -116,8 +120,9 @@ impl Ask {
             Ask::Share { lists, members } => lists.as_slice().len() + members.as_slice().len(),
             Ask::Move { .. } => 2,
             Ask::Read { .. } | Ask::List { .. } | Ask::GetList { .. } => 1,
-            Ask::AddPicture { .. } | Ask::AddAlbum { .. } | Ask::Retitle { .. } => 1,
-            Ask::Replace { .. } | Ask::Delete { .. } => 1,
+            Ask::Head { .. } | Ask::Children { .. } => 1,
+            Ask::AddPicture { .. } | Ask::AddAlbum { .. } | Ask::AddGroup { .. } => 1,
+            Ask::Retitle { .. } | Ask::Replace { .. } | Ask::Delete { .. } => 1,
             Ask::SetOwner { .. } | Ask::SetMembers { .. } => 1,
         }
     }
@@ -128,11 +133,10 @@ impl Ask {
     {
         match self {
             Ask::SetMembers { members, .. } => is_room_for(members),
-            Ask::Share { members, .. } => members
-                .as_slice()
-                .iter()
-                .all(|new| is_room_for(&new.members)),
+            Ask::AddGroup { members, .. } => is_room_for(members),
+            Ask::Share { members, .. } => have_room(members.as_slice()),
             Ask::Read { .. } | Ask::List { .. } | Ask::GetList { .. } => true,
+            Ask::Head { .. } | Ask::Children { .. } => true,
             Ask::AddPicture { .. } | Ask::AddAlbum { .. } | Ask::Retitle { .. } => true,
             Ask::Replace { .. } | Ask::Delete { .. } | Ask::Move { .. } => true,
             Ask::SetLists { .. } | Ask::SetOwner { .. } => true,
@@ -147,8 +151,10 @@ impl Ask {
             Ask::SetLists { lists } => lists.as_slice(),
             Ask::Share { lists, .. } => lists.as_slice(),
             Ask::Read { .. } | Ask::List { .. } | Ask::GetList { .. } => &[],
-            Ask::AddPicture { .. } | Ask::AddAlbum { .. } | Ask::Retitle { .. } => &[],
-            Ask::Replace { .. } | Ask::Delete { .. } | Ask::Move { .. } => &[],
+            Ask::Head { .. } | Ask::Children { .. } => &[],
+            Ask::AddPicture { .. } | Ask::AddAlbum { .. } | Ask::AddGroup { .. } => &[],
+            Ask::Retitle { .. } | Ask::Replace { .. } => &[],
+            Ask::Delete { .. } | Ask::Move { .. } => &[],
             Ask::SetOwner { .. } | Ask::SetMembers { .. } => &[],
         }
     }
@@ -231,6 +237,12 @@ fn names_group_of(members: &[NewMembership], new: &NewMembership) -> bool
     ensures { result ≡ list_any (same_group new.now) members.now }
 {
     members.iter().any(|other| new.object.is(other.object))
+}
+
+fn have_room(members: &[NewMembership]) -> bool
+    ensures { result ≡ list_all (λ new. is_room_for new.members) members.now }
+{
+    members.iter().all(|new| is_room_for(&new.members))
 }
 
 /// Whether a group may have these members.

@@ -4,6 +4,7 @@ ghost use Rattle.album_stamps.specs.Distinct.{are_distinct};
 ghost use Rattle.album_eval.specs.declared.facts.Principal.{Principal};
 ghost use Rattle.album_reader.specs.Answers.{ReadVersion};
 ghost use Rattle.album_views.specs.declared.asks.Ask.{Ask};
+ghost use Rattle.album_views.specs.declared.asks.Ask.TheVariants as ask;
 ghost use Rattle.album_views.specs.declared.viewing.ViewStep.TheVariants.{Again, Closed, Busy};
 ghost use Rattle.album_views.specs.declared.viewing.Why.TheVariants.{Rounds, Wide};
 ghost use Rattle.album_views.specs.Asks.{Wanted, wanted, objects_of};
@@ -24,6 +25,15 @@ pub fn asks_without_flaw()
     ensures kinds { (ask : Ask) (object : Wanted) → flaw_of ask ≡ None
         → Contains (wanted ask) object → IsTrue (is_one_of object.kinds object.object) }
     ensures taken { (ask : Ask) (principal : Principal) → refusal_of ask principal ≡ None → flaw_of ask ≡ None }
+{}
+
+/// A law: an ask for the children of an album looks at no child, so no child makes it wide. It looks at what a new
+/// picture in the album looks at; and an ask for a head at what another title of the object looks at.
+pub fn heads_and_children_are_narrow()
+    ensures children { (rows : List ReadVersion) (looker : Option Principal) (album : ℕ) (title content : List ℕ)
+        → names_of rows looker (ask.Children album) ≡ names_of rows looker (ask.AddPicture album title content) }
+    ensures head { (rows : List ReadVersion) (looker : Option Principal) (object : ℕ) (title : List ℕ)
+        → names_of rows looker (ask.Head object) ≡ names_of rows looker (ask.Retitle object title) }
 {}
 
 /// A law: the read set has exactly the items that are named, each once. They are in the order of the rules: the first

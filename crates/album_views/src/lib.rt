@@ -4,13 +4,14 @@
 //! What comes in: an ask, and then the snapshot of each read that is made for it. What goes out: the items
 //! to read first, and with each snapshot the items to read next, or a view, or why there is none.
 //!
-//! Read `asks` and `checks` first, then `read_set`, which gives the items that a ruling looks at, then `view` and
+//! Read `asks`, `deeds` and `checks` first, then `read_set`, which gives the items that a ruling looks at, then `view` and
 //! `viewing`.
 #![tactic(auto)]
 
 // What is asked.
 mod asks;
 mod checks;
+mod deeds;
 
 // What a ruling looks at, and the reads until a snapshot has it.
 mod read_set;
@@ -21,7 +22,11 @@ mod viewing;
 mod laws;
 
 pub use asks::{Ask, NewList, NewLists, NewMembership, NewMemberships};
-pub use laws::{a_view_is_the_first_closed_read, asks_without_flaw, names_are_what_is_named};
+pub use deeds::{Deed, Relatives};
+pub use laws::{
+    a_view_is_the_first_closed_read, asks_without_flaw, heads_and_children_are_narrow,
+    names_are_what_is_named,
+};
 pub use read_set::{looker, names};
 pub use view::View;
 pub use viewing::{ViewStep, Viewing, Why};

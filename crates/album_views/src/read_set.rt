@@ -10,6 +10,7 @@ ghost use Rattle.album_views.specs.ReadSets.{relatives_of, subjects_of, named_by
 ghost use Rattle.album_views.specs.Seen.{seen};
 
 use crate::asks::Ask;
+use crate::deeds::Relatives;
 use album_eval::{Policy, Principal};
 use album_items::{Head, ItemId, Kind, Value};
 use album_lists::{Ace, Member, Who};
@@ -82,15 +83,10 @@ fn add_relatives(
 ) -> Result<(), AllocError>
     ensures { OnOk result (subjects.new.items ≡ subjects.old.items ++ relatives_of (seen snapshot.now) ask.now) }
 {
-    match ask {
-        Ask::Delete { object } => add_home(subjects, snapshot, *object),
-        Ask::Move { object, .. } => add_home(subjects, snapshot, *object),
-        Ask::List { album } => add_children(subjects, snapshot, *album),
-        Ask::Read { .. } | Ask::GetList { .. } => Ok(()),
-        Ask::AddPicture { .. } | Ask::AddAlbum { .. } => Ok(()),
-        Ask::Retitle { .. } | Ask::Replace { .. } => Ok(()),
-        Ask::SetLists { .. } | Ask::SetOwner { .. } | Ask::SetMembers { .. } => Ok(()),
-        Ask::Share { .. } => Ok(()),
+    match ask.relatives() {
+        Relatives::None => Ok(()),
+        Relatives::HomeOf(picture) => add_home(subjects, snapshot, picture),
+        Relatives::ChildrenOf(album) => add_children(subjects, snapshot, album),
     }
 }
 

@@ -7,7 +7,8 @@ use Rattle.json.specs.Token.{Token, begin_object, end_object, key, string, numbe
 use Rattle.serde_json.specs.Written.{compact_text}
 use Rattle.serde_json.proofs.Texts.{print-outline}
 use Rattle.album_items.specs.ItemIds.{text_of}
-use Rattle.album_wire.specs.OutJson.{picture_served, ended_json}
+use Rattle.album_wire.specs.ServedJson.{picture_served}
+use Rattle.album_wire.specs.OutJson.{ended_json}
 
 -- the tokens of an answer's beginning
 abbrev pub begun : List ℕ → ℕ → List Token

@@ -16,7 +16,7 @@ use Rattle.album_lines.specs.Values.{each_of, entries_read, members_read}
 use Rattle.album_wire.specs.ItemTexts.{owner_read, title_read, content_read}
 use Rattle.album_lines.specs.Spelling.{HasOnly, IsList, AreMembers, list_data}
 use Rattle.album_wire.specs.ItemShapes.{item_named}
-use Rattle.album_wire.specs.AskShape.{SpelledNewList, SpelledNewMembership, SpelledAsk, Read, ListAlbum, GetList, AddPicture, AddAlbum, Retitle, Replace, Delete, Move, SetLists, SetOwner, SetMembers, Share, read_shape_of, list_shape_of, get_list_shape_of, add_picture_shape_of, add_album_shape_of, retitle_shape_of, replace_shape_of, delete_shape_of, move_shape_of, new_list_shape_of, set_lists_shape_of, set_owner_shape_of, set_members_shape_of, new_membership_shape_of, share_shape_of, shape_by_word, ask_shape_of}
+use Rattle.album_wire.specs.AskShape.{SpelledNewList, SpelledNewMembership, SpelledAsk, Read, ListAlbum, GetList, Head, Children, AddPicture, AddAlbum, AddGroup, Retitle, Replace, Delete, Move, SetLists, SetOwner, SetMembers, Share, read_shape_of, list_shape_of, get_list_shape_of, head_ask_shape_of, children_shape_of, add_picture_shape_of, add_album_shape_of, add_group_shape_of, retitle_shape_of, replace_shape_of, delete_shape_of, move_shape_of, new_list_shape_of, set_lists_shape_of, set_owner_shape_of, set_members_shape_of, new_membership_shape_of, share_shape_of, shape_by_word, ask_shape_of}
 use Rattle.album_wire.specs.Asks.{new_list_read, new_membership_read, ask_read}
 use Rattle.album_wire.specs.ObjectSpelling.{HasMember}
 use Rattle.album_wire.specs.ItemSpelling.{IsItem, IsOwner, IsTitle, IsContent}
@@ -135,6 +135,37 @@ module _ (reads : ReadsItems) where
       let shape : get_list_shape_of d ≡ Ok (GetList object) =
       item_of_it (codes "object") d GetList object is.0.names is.1 in
       (GetList object, by_word (codes "get_list") _ d is.0.does shape, refl)
+
+  head_spelled : (a : Ask) (s : SpelledAsk) (d : Data) → get (codes "do") d ≡ Some (string (codes "head"))
+      → head_ask_shape_of d ≡ Ok s → ask_read s ≡ Ok a → IsAsk a d
+  unfolding head_ask_shape_of ask_read
+  head_spelled a s d at h g =
+      let item = of_item (codes "object") d Head s h in
+      let same : ask.Head item.0 ≡ a = same_value _ _ (ap ask_read item.3 ∙ g) in
+      same_ask (ask.Head item.0) a d same (record { does = at; names = item.1 }, item.2)
+
+  head_parts : (object : ℕ) (d : Data) → IsAsk (ask.Head object) d
+      → (s : SpelledAsk) × (ask_shape_of d ≡ Ok s) × (ask_read s ≡ Ok (ask.Head object))
+  unfolding head_ask_shape_of ask_read
+  head_parts object d is =
+      let shape : head_ask_shape_of d ≡ Ok (Head object) = item_of_it (codes "object") d Head object is.0.names is.1 in
+      (Head object, by_word (codes "head") _ d is.0.does shape, refl)
+
+  children_spelled : (a : Ask) (s : SpelledAsk) (d : Data) → get (codes "do") d ≡ Some (string (codes "children"))
+      → children_shape_of d ≡ Ok s → ask_read s ≡ Ok a → IsAsk a d
+  unfolding children_shape_of ask_read
+  children_spelled a s d at h g =
+      let item = of_item (codes "album") d Children s h in
+      let same : ask.Children item.0 ≡ a = same_value _ _ (ap ask_read item.3 ∙ g) in
+      same_ask (ask.Children item.0) a d same (record { does = at; names = item.1 }, item.2)
+
+  children_parts : (album : ℕ) (d : Data) → IsAsk (ask.Children album) d
+      → (s : SpelledAsk) × (ask_shape_of d ≡ Ok s) × (ask_read s ≡ Ok (ask.Children album))
+  unfolding children_shape_of ask_read
+  children_parts album d is =
+      let shape : children_shape_of d ≡ Ok (Children album) =
+      item_of_it (codes "album") d Children album is.0.names is.1 in
+      (Children album, by_word (codes "children") _ d is.0.does shape, refl)
 
   delete_spelled : (a : Ask) (s : SpelledAsk) (d : Data) → get (codes "do") d ≡ Some (string (codes "delete"))
       → delete_shape_of d ≡ Ok s → ask_read s ≡ Ok a → IsAsk a d
@@ -433,6 +464,35 @@ module _ (reads : ReadsItems) where
       (known_then (codes "members") d texts_of texts.0 _ s texts.1 refl)) in
       (s, by_word (codes "set_members") s d is.0.does shape, step_then (members_read texts.0) _ members _ texts.2 refl)
 
+  add_group_spelled : (a : Ask) (s : SpelledAsk) (d : Data) → get (codes "do") d ≡ Some (string (codes "add_group"))
+      → add_group_shape_of d ≡ Ok s → ask_read s ≡ Ok a → IsAsk a d
+  unfolding add_group_shape_of ask_read
+  add_group_spelled a s d at h g =
+      let names = names_taken (codes "do" ∷ codes "album" ∷ codes "members" ∷ []) d _ s h in
+      let album = item_taken reads (codes "album") d _ s names.1 in
+      let texts = known_taken (codes "members") d texts_of _ s album.2 in
+      let shape : AddGroup album.0 texts.0 ≡ s = same_value _ _ texts.2 in
+      let members = step_taken (members_read texts.0) _ a (ap ask_read shape ∙ g) in
+      let same : ask.AddGroup album.0 members.0 ≡ a = same_value _ _ members.2 in
+      let spells =
+      member_as (codes "members") d (λ e. texts_of e ≡ Ok texts.0) (AreMembers members.0)
+      (λ e read. members_spelled members.0 texts.0 e read members.1) texts.1 in
+      same_ask (ask.AddGroup album.0 members.0) a d same (record { does = at; names = names.0 }, album.1, spells)
+
+  add_group_parts : (album : ℕ) (members : List Member) (d : Data) → IsAsk (ask.AddGroup album members) d
+      → (s : SpelledAsk) × (ask_shape_of d ≡ Ok s) × (ask_read s ≡ Ok (ask.AddGroup album members))
+  unfolding add_group_shape_of ask_read
+  add_group_parts album members d is =
+      let texts =
+      member_parts (codes "members") d texts_of (AreMembers members) (λ ts. members_read ts ≡ Ok members)
+      (members_parts members) is.2 in
+      let s : SpelledAsk = AddGroup album texts.0 in
+      let shape : add_group_shape_of d ≡ Ok s =
+      names_then (codes "do" ∷ codes "album" ∷ codes "members" ∷ []) d _ s is.0.names
+      (item_then reads (codes "album") d album _ s is.1
+      (known_then (codes "members") d texts_of texts.0 _ s texts.1 refl)) in
+      (s, by_word (codes "add_group") s d is.0.does shape, step_then (members_read texts.0) _ members _ texts.2 refl)
+
   -- ---- a share
 
   new_membership_of_two : (a b : Data) (s : SpelledNewMembership) → new_membership_shape_of (list_data (a ∷ b ∷ [])) ≡ Ok s
@@ -547,10 +607,14 @@ module _ (reads : ReadsItems) where
       on_test (bytes_eq word (codes "read")) _ _ s h (λ e h. read_spelled a s d (said word _ d at e) h g)
       (λ h. on_test (bytes_eq word (codes "list")) _ _ s h (λ e h. list_spelled a s d (said word _ d at e) h g)
       (λ h. on_test (bytes_eq word (codes "get_list")) _ _ s h (λ e h. get_list_spelled a s d (said word _ d at e) h g)
+      (λ h. on_test (bytes_eq word (codes "head")) _ _ s h (λ e h. head_spelled a s d (said word _ d at e) h g)
+      (λ h. on_test (bytes_eq word (codes "children")) _ _ s h (λ e h. children_spelled a s d (said word _ d at e) h g)
       (λ h. on_test (bytes_eq word (codes "add_picture")) _ _ s h
       (λ e h. add_picture_spelled a s d (said word _ d at e) h g)
       (λ h. on_test (bytes_eq word (codes "add_album")) _ _ s h
       (λ e h. add_album_spelled a s d (said word _ d at e) h g)
+      (λ h. on_test (bytes_eq word (codes "add_group")) _ _ s h
+      (λ e h. add_group_spelled a s d (said word _ d at e) h g)
       (λ h. on_test (bytes_eq word (codes "retitle")) _ _ s h (λ e h. retitle_spelled a s d (said word _ d at e) h g)
       (λ h. on_test (bytes_eq word (codes "replace")) _ _ s h (λ e h. replace_spelled a s d (said word _ d at e) h g)
       (λ h. on_test (bytes_eq word (codes "delete")) _ _ s h (λ e h. delete_spelled a s d (said word _ d at e) h g)
@@ -563,7 +627,7 @@ module _ (reads : ReadsItems) where
       (λ e h. set_members_spelled a s d (said word _ d at e) h g)
       (λ h. on_test (bytes_eq word (codes "share")) _ _ s h
       (λ e h. share_spelled a s d (said word _ d at e) h g)
-      (λ h. cc)))))))))))))
+      (λ h. cc))))))))))))))))
 
   pub ask_spelled : (a : Ask) (s : SpelledAsk) (d : Data) → ask_shape_of d ≡ Ok s → ask_read s ≡ Ok a → IsAsk a d
   ask_spelled a s d h g =
@@ -577,8 +641,11 @@ module _ (reads : ReadsItems) where
   ask_parts (ask.Read object) d is = read_parts object d is
   ask_parts (ask.List album) d is = list_parts album d is
   ask_parts (ask.GetList object) d is = get_list_parts object d is
+  ask_parts (ask.Head object) d is = head_parts object d is
+  ask_parts (ask.Children album) d is = children_parts album d is
   ask_parts (ask.AddPicture album title content) d is = add_picture_parts album title content d is
   ask_parts (ask.AddAlbum album title) d is = add_album_parts album title d is
+  ask_parts (ask.AddGroup album members) d is = add_group_parts album members d is
   ask_parts (ask.Retitle object title) d is = retitle_parts object title d is
   ask_parts (ask.Replace object content) d is = replace_parts object content d is
   ask_parts (ask.Delete object) d is = delete_parts object d is

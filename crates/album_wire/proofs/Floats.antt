@@ -24,6 +24,8 @@ use Rattle.album_eval.specs.declared.verdicts.Verdict.{Verdict}
 use Rattle.album_eval.specs.declared.verdicts.Verdict.TheVariants as verdict
 use Rattle.album_listing.specs.declared.reasons.Reason.{Reason}
 use Rattle.album_listing.specs.declared.rows.Row.{Row}
+use Rattle.album_permits.specs.declared.attributes.Attributes.{Attributes}
+use Rattle.album_permits.specs.declared.attributes.Attributes.TheVariants as attributes
 use Rattle.album_permits.specs.declared.notes.Note.{Note}
 use Rattle.album_permits.specs.declared.serving.Served.{Served}
 use Rattle.album_permits.specs.declared.serving.Served.TheVariants as served
@@ -37,7 +39,8 @@ use Rattle.album_wire.specs.OpeningJson.{opening_json}
 use Rattle.album_wire.specs.declared.opening_line.OpeningLine.TheVariants as opening
 use Rattle.album_wire.specs.declared.opening_shape.Header.{Header}
 use Rattle.album_wire.specs.RecordJson.{record_json}
-use Rattle.album_wire.specs.OutJson.{note_json, row_json, at_json, reason_json, group_served, entries_served, listed_json, denied_json, served_json, answer_json}
+use Rattle.album_wire.specs.ServedJson.{row_json, group_served, entries_served, listed_json, head_json, children_json, served_json}
+use Rattle.album_wire.specs.OutJson.{note_json, at_json, reason_json, denied_json, answer_json}
 use Rattle.album_wire.specs.TalkJson.{talk_json}
 use Rattle.album_wire.specs.FiguresJson.{marks_json, figures_json}
 use Rattle.album_wire.specs.declared.figures_json.ServiceFigures.{ServiceFigures}
@@ -146,6 +149,15 @@ no_float_in_entries client object stamp entries = rw (in_entries entries) refl
 pub no_float_in_rows : (client album stamp : ℕ) (rows : List Row) → has_float (listed_json client album stamp rows) ≡ false
 no_float_in_rows client album stamp rows = rw (in_list row_json in_row rows) refl
 
+pub no_float_in_head : (client object stamp : ℕ) (a : Attributes) → has_float (head_json client object stamp a) ≡ false
+no_float_in_head client object stamp attributes.Nothing = refl
+no_float_in_head client object stamp (attributes.Picture head title home) = refl
+no_float_in_head client object stamp (attributes.Album head title home count) = rw (in_home home) refl
+no_float_in_head client object stamp (attributes.Group head count) = refl
+
+pub no_float_in_children : (client album stamp : ℕ) (children : List ℕ) → has_float (children_json client album stamp children) ≡ false
+no_float_in_children client album stamp children = rw (in_items children) refl
+
 pub no_float_in_reasons : (client : ℕ) (reasons : List Reason) → has_float (denied_json client reasons) ≡ false
 no_float_in_reasons client reasons = rw (in_list reason_json in_reason reasons) refl
 
@@ -154,6 +166,8 @@ in_served client (served.Picture object stamp title content) = refl
 in_served client (served.Group object stamp members) = no_float_in_group client object stamp members
 in_served client (served.Entries object of stamp entries) = no_float_in_entries client object stamp entries
 in_served client (served.Listed album stamp rows) = no_float_in_rows client album stamp rows
+in_served client (served.Head object stamp attributes) = no_float_in_head client object stamp attributes
+in_served client (served.Children album stamp children) = no_float_in_children client album stamp children
 
 pub no_float_in_answer : (client : ℕ) (a : Answer) → has_float (answer_json client a) ≡ false
 no_float_in_answer client (answer.Served served) = in_served client served

@@ -15,7 +15,7 @@ use Rattle.album_wire.specs.ItemTexts.{bytes_read, content_read}
 use Rattle.album_wire.specs.ItemShapes.{child_of, head_shape_of, picture_shape_of, album_shape_of, list_shape_of, group_shape_of}
 use Rattle.album_wire.specs.OpeningShape.{header_of, open_shape_of, item_shape_of, begin_shape_of}
 use Rattle.album_wire.specs.OpeningLine.{value_read, opening_read, opening_line_of}
-use Rattle.album_wire.specs.AskShape.{read_shape_of, retitle_shape_of, replace_shape_of, new_list_shape_of, set_lists_shape_of, new_membership_shape_of, share_shape_of}
+use Rattle.album_wire.specs.AskShape.{read_shape_of, head_ask_shape_of, children_shape_of, add_group_shape_of, retitle_shape_of, replace_shape_of, new_list_shape_of, set_lists_shape_of, new_membership_shape_of, share_shape_of}
 use Rattle.album_wire.specs.EventShape.{part_named, asked_shape_of, range_of, deliver_shape_of, sweep_of, sweep_shape_of, stop_shape_of, restart_shape_of, trim_of, trim_shape_of}
 use Rattle.album_wire.specs.MarkShape.{write_shape_of, mark_shape_of}
 use Rattle.album_wire.specs.MarkLine.{write_read, mark_read, mark_line_of, mark_text}
@@ -48,7 +48,7 @@ unfolding values_on_literals header_of open_shape_of item_shape_of begin_shape_o
 openings_on_literals = tt
 
 unfoldable pub asks_on_literals : ⊤
-unfolding items_on_literals retitle_shape_of replace_shape_of new_list_shape_of set_lists_shape_of new_list_read new_membership_shape_of share_shape_of new_membership_read
+unfolding items_on_literals head_ask_shape_of children_shape_of add_group_shape_of retitle_shape_of replace_shape_of new_list_shape_of set_lists_shape_of new_list_read new_membership_shape_of share_shape_of new_membership_read
 asks_on_literals = tt
 
 unfoldable pub parts_on_literals : ⊤

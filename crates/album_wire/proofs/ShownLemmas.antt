@@ -26,6 +26,10 @@ served_at_first (served.Entries object of stamp entries) =
     ap (λ (s : ℕ). served.Entries object of s entries) (stamp_at_first of stamp)
 served_at_first (served.Listed album stamp rows) =
     ap (λ (s : ℕ). served.Listed album s rows) (stamp_at_first album stamp)
+served_at_first (served.Head object stamp attributes) =
+    ap (λ (s : ℕ). served.Head object s attributes) (stamp_at_first object stamp)
+served_at_first (served.Children album stamp children) =
+    ap (λ (s : ℕ). served.Children album s children) (stamp_at_first album stamp)
 
 pub answer_at_first : (given : Answer) → answer_shown [] given ≡ given
 answer_at_first (answer.Served given) = ap (λ (s : Served). answer.Served s) (served_at_first given)

@@ -27,8 +27,11 @@ pub data SpelledAsk : Type 0 where
   Read : (object : ℕ) → SpelledAsk
   ListAlbum : (album : ℕ) → SpelledAsk
   GetList : (object : ℕ) → SpelledAsk
+  Head : (object : ℕ) → SpelledAsk
+  Children : (album : ℕ) → SpelledAsk
   AddPicture : (album : ℕ) → (title : List ℕ) → (content : List ℕ) → SpelledAsk
   AddAlbum : (album : ℕ) → (title : List ℕ) → SpelledAsk
+  AddGroup : (album : ℕ) → (members : List (List ℕ)) → SpelledAsk
   Retitle : (object : ℕ) → (title : List ℕ) → SpelledAsk
   Replace : (object : ℕ) → (content : List ℕ) → SpelledAsk
   Delete : (object : ℕ) → SpelledAsk
@@ -48,8 +51,11 @@ abbrev pub spelled_ask : AskShape → SpelledAsk
 spelled_ask (shape.Read object) = Read object
 spelled_ask (shape.List album) = ListAlbum album
 spelled_ask (shape.GetList object) = GetList object
+spelled_ask (shape.Head object) = Head object
+spelled_ask (shape.Children album) = Children album
 spelled_ask (shape.AddPicture album title content) = AddPicture album title.now content.now
 spelled_ask (shape.AddAlbum album title) = AddAlbum album title.now
+spelled_ask (shape.AddGroup album members) = AddGroup album (map (λ text. text.now) members.items)
 spelled_ask (shape.Retitle object title) = Retitle object title.now
 spelled_ask (shape.Replace object content) = Replace object content.now
 spelled_ask (shape.Delete object) = Delete object
@@ -83,6 +89,20 @@ get_list_shape_of d = do
   object ← field_of (codes "object") d >>= item_named
   Ok (GetList object)
 
+-- {object}
+unfoldable pub head_ask_shape_of : Data → Result SpelledAsk Refusal
+head_ask_shape_of d = do
+  _ ← only_of (codes "do" ∷ codes "object" ∷ []) d
+  object ← field_of (codes "object") d >>= item_named
+  Ok (Head object)
+
+-- {album}
+unfoldable pub children_shape_of : Data → Result SpelledAsk Refusal
+children_shape_of d = do
+  _ ← only_of (codes "do" ∷ codes "album" ∷ []) d
+  album ← field_of (codes "album") d >>= item_named
+  Ok (Children album)
+
 -- {album, title, content}
 unfoldable pub add_picture_shape_of : Data → Result SpelledAsk Refusal
 add_picture_shape_of d = do
@@ -99,6 +119,14 @@ add_album_shape_of d = do
   album ← field_of (codes "album") d >>= item_named
   title ← field_of (codes "title") d >>= text_of
   Ok (AddAlbum album title)
+
+-- {album, members}
+unfoldable pub add_group_shape_of : Data → Result SpelledAsk Refusal
+add_group_shape_of d = do
+  _ ← only_of (codes "do" ∷ codes "album" ∷ codes "members" ∷ []) d
+  album ← field_of (codes "album") d >>= item_named
+  members ← field_of (codes "members") d >>= texts_of
+  Ok (AddGroup album members)
 
 -- {object, title}
 unfoldable pub retitle_shape_of : Data → Result SpelledAsk Refusal
@@ -184,8 +212,11 @@ shape_by_word word d =
     if bytes_eq word (codes "read") then read_shape_of d
     else if bytes_eq word (codes "list") then list_shape_of d
     else if bytes_eq word (codes "get_list") then get_list_shape_of d
+    else if bytes_eq word (codes "head") then head_ask_shape_of d
+    else if bytes_eq word (codes "children") then children_shape_of d
     else if bytes_eq word (codes "add_picture") then add_picture_shape_of d
     else if bytes_eq word (codes "add_album") then add_album_shape_of d
+    else if bytes_eq word (codes "add_group") then add_group_shape_of d
     else if bytes_eq word (codes "retitle") then retitle_shape_of d
     else if bytes_eq word (codes "replace") then replace_shape_of d
     else if bytes_eq word (codes "delete") then delete_shape_of d

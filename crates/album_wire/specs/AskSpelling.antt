@@ -42,6 +42,12 @@ IsAsk (ask.List album) d =
 IsAsk (ask.GetList object) d =
     IsDo (codes "get_list") (codes "object" ∷ []) d
     × HasMember (codes "object") (IsItem object) d
+IsAsk (ask.Head object) d =
+    IsDo (codes "head") (codes "object" ∷ []) d
+    × HasMember (codes "object") (IsItem object) d
+IsAsk (ask.Children album) d =
+    IsDo (codes "children") (codes "album" ∷ []) d
+    × HasMember (codes "album") (IsItem album) d
 IsAsk (ask.AddPicture album title content) d =
     IsDo (codes "add_picture") (codes "album" ∷ codes "title" ∷ codes "content" ∷ []) d
     × HasMember (codes "album") (IsItem album) d
@@ -51,6 +57,10 @@ IsAsk (ask.AddAlbum album title) d =
     IsDo (codes "add_album") (codes "album" ∷ codes "title" ∷ []) d
     × HasMember (codes "album") (IsItem album) d
     × HasMember (codes "title") (IsTitle title) d
+IsAsk (ask.AddGroup album members) d =
+    IsDo (codes "add_group") (codes "album" ∷ codes "members" ∷ []) d
+    × HasMember (codes "album") (IsItem album) d
+    × HasMember (codes "members") (AreMembers members) d
 IsAsk (ask.Retitle object title) d =
     IsDo (codes "retitle") (codes "object" ∷ codes "title" ∷ []) d
     × HasMember (codes "object") (IsItem object) d

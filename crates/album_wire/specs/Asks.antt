@@ -8,7 +8,7 @@ use Rattle.album_views.specs.declared.asks.NewList.{NewList}
 use Rattle.album_views.specs.declared.asks.NewMembership.{NewMembership}
 use Rattle.album_lines.specs.Values.{each_of, entries_read, members_read}
 use Rattle.album_wire.specs.ItemTexts.{owner_read, title_read, content_read}
-use Rattle.album_wire.specs.AskShape.{SpelledNewList, SpelledNewMembership, SpelledAsk, Read, ListAlbum, GetList, AddPicture, AddAlbum, Retitle, Replace, Delete, Move, SetLists, SetOwner, SetMembers, Share}
+use Rattle.album_wire.specs.AskShape.{SpelledNewList, SpelledNewMembership, SpelledAsk, Read, ListAlbum, GetList, Head, Children, AddPicture, AddAlbum, AddGroup, Retitle, Replace, Delete, Move, SetLists, SetOwner, SetMembers, Share}
 
 unfoldable pub new_list_read : SpelledNewList → Result NewList Refusal
 new_list_read new = do
@@ -24,6 +24,8 @@ unfoldable pub ask_read : SpelledAsk → Result Ask Refusal
 ask_read (Read object) = Ok (ask.Read object)
 ask_read (ListAlbum album) = Ok (ask.List album)
 ask_read (GetList object) = Ok (ask.GetList object)
+ask_read (Head object) = Ok (ask.Head object)
+ask_read (Children album) = Ok (ask.Children album)
 ask_read (AddPicture album title content) = do
   title ← title_read title
   content ← content_read content
@@ -31,6 +33,9 @@ ask_read (AddPicture album title content) = do
 ask_read (AddAlbum album title) = do
   title ← title_read title
   Ok (ask.AddAlbum album title)
+ask_read (AddGroup album members) = do
+  members ← members_read members
+  Ok (ask.AddGroup album members)
 ask_read (Retitle object title) = do
   title ← title_read title
   Ok (ask.Retitle object title)

@@ -16,6 +16,7 @@ pub mod EventLine
 pub mod TalkLine
 pub mod ValueJson
 pub mod MessageJson
+pub mod ServedJson
 pub mod OutJson
 pub mod ShownStamps
 pub mod RecordJson

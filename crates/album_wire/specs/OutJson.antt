@@ -4,26 +4,22 @@ use Rattle.serde_json.specs.Data.{Data, null, boolean, string}
 use Rattle.album_stamps.specs.Refusals.{number_of, name_of}
 use Rattle.album_stamps.specs.declared.refusals.Refusal.{Refusal}
 use Rattle.album_access.specs.Bits.{mask_bits}
-use Rattle.album_lists.specs.declared.lists.Ace.{Ace}
-use Rattle.album_lists.specs.declared.whos.Member.{Member}
 use Rattle.album_eval.specs.declared.verdicts.Verdict.{Verdict}
 use Rattle.album_eval.specs.declared.verdicts.Verdict.TheVariants as verdict
 use Rattle.album_calls.specs.declared.messages.Message.{Message}
 use Rattle.album_views.specs.declared.viewing.Why.{Why}
 use Rattle.album_views.specs.declared.viewing.Why.TheVariants as why
 use Rattle.album_listing.specs.declared.reasons.Reason.{Reason}
-use Rattle.album_listing.specs.declared.rows.Row.{Row}
 use Rattle.album_permits.specs.declared.notes.Note.{Note}
-use Rattle.album_permits.specs.declared.serving.Served.{Served}
-use Rattle.album_permits.specs.declared.serving.Served.TheVariants as served
 use Rattle.album_permits.specs.declared.answers.Answer.{Answer}
 use Rattle.album_permits.specs.declared.answers.Answer.TheVariants as answer
 use Rattle.album_permits.specs.declared.outs.Out.{Out}
 use Rattle.album_permits.specs.declared.outs.Out.TheVariants as out
 use Rattle.album_lines.specs.Spelling.{whole_data, list_data}
 use Rattle.album_lines.specs.Output.{line_text}
-use Rattle.album_wire.specs.ValueJson.{object_data, item_json, entries_json, members_json, content_json}
+use Rattle.album_wire.specs.ValueJson.{object_data, item_json}
 use Rattle.album_wire.specs.MessageJson.{message_json}
+use Rattle.album_wire.specs.ServedJson.{served_json}
 
 -- ---- notes
 
@@ -42,73 +38,6 @@ abbrev pub note_json : ℕ → Note → Data
 note_json client note = object_data (note_fields client note)
 
 -- ---- answers
-
--- the word that says which answer it is, and to which client
-abbrev pub answer_fields : List ℕ → ℕ → List (List ℕ × Data)
-answer_fields word client = (codes "answer", string word) ∷ (codes "client", whole_data client) ∷ []
-
--- the same, of this object, as of this stamp
-abbrev pub answer_about : List ℕ → ℕ → ℕ → ℕ → List (List ℕ × Data)
-answer_about word client item stamp =
-    (codes "answer", string word)
-    ∷ (codes "client", whole_data client)
-    ∷ (codes "object", item_json item)
-    ∷ (codes "stamp", whole_data stamp)
-    ∷ []
-
--- [item, title]
-abbrev pub row_json : Row → Data
-row_json row = list_data (item_json row.item ∷ string row.title ∷ [])
-
-abbrev pub rows_json : List Row → Data
-rows_json rows = list_data (map row_json rows)
-
--- a picture that is served
-abbrev pub picture_served : ℕ → ℕ → ℕ → List ℕ → List ℕ → Data
-picture_served client object stamp title content = object_data (
-    (codes "answer", string (codes "served"))
-    ∷ (codes "client", whole_data client)
-    ∷ (codes "content", content_json content)
-    ∷ (codes "object", item_json object)
-    ∷ (codes "stamp", whole_data stamp)
-    ∷ (codes "title", string title)
-    ∷ [])
-
--- a group
-abbrev pub group_served : ℕ → ℕ → ℕ → List Member → Data
-group_served client object stamp members = object_data (
-    (codes "answer", string (codes "served"))
-    ∷ (codes "client", whole_data client)
-    ∷ (codes "members", members_json members)
-    ∷ (codes "object", item_json object)
-    ∷ (codes "stamp", whole_data stamp)
-    ∷ [])
-
--- the entries of the object's list, with the stamp of the list
-abbrev pub entries_served : ℕ → ℕ → ℕ → List Ace → Data
-entries_served client object stamp entries = object_data (
-    (codes "answer", string (codes "served"))
-    ∷ (codes "client", whole_data client)
-    ∷ (codes "entries", entries_json entries)
-    ∷ (codes "object", item_json object)
-    ∷ (codes "stamp", whole_data stamp)
-    ∷ [])
-
--- an album that is listed
-abbrev pub listed_json : ℕ → ℕ → ℕ → List Row → Data
-listed_json client album stamp rows = object_data (
-    (codes "answer", string (codes "listed"))
-    ∷ (codes "client", whole_data client)
-    ∷ (codes "object", item_json album)
-    ∷ (codes "rows", rows_json rows)
-    ∷ (codes "stamp", whole_data stamp)
-    ∷ [])
-
-abbrev pub served_json : ℕ → Served → Data
-served_json client (served.Picture object stamp title content) = picture_served client object stamp title content
-served_json client (served.Group object stamp members) = group_served client object stamp members
-served_json client (served.Entries object of stamp entries) = entries_served client object stamp entries
-served_json client (served.Listed album stamp rows) = listed_json client album stamp rows
 
 -- the index of the entry that denies, or the end; of what is granted, nothing
 abbrev pub at_json : Verdict → Data

@@ -1,7 +1,7 @@
 -- The JSON values of what items hold: whos, entries and members, and the values of items.
 use Rattle.std.specs.Prelude.{ℕ, List, [], ◌∷◌, ◌++◌, codes, decimal, map, Option, Some, None}
 use Rattle.hex.specs.Hex.{encode_lower}
-use Rattle.serde_json.specs.Data.{Data, null, string, object, Members, no_members, member}
+use Rattle.serde_json.specs.Data.{Data, null, string, object, Members, no_members, member, put}
 use Rattle.album_access.specs.Bits.{mask_bits, flag_bits}
 use Rattle.album_lists.specs.declared.lists.Ace.{Ace}
 use Rattle.album_lists.specs.declared.whos.Member.{Member}
@@ -94,6 +94,12 @@ head_fields head =
     ∷ (codes "list", whole_data head.list)
     ∷ (codes "owner", string (owner_text head.owner))
     ∷ []
+
+-- the same, put to other members
+abbrev pub with_head : Head → Members → Members
+with_head head members =
+    put (codes "owner") (string (owner_text head.owner))
+    (put (codes "list") (whole_data head.list) (put (codes "group") (whole_data head.group) members))
 
 abbrev pub picture_json : Picture → Data
 picture_json picture = object_data (

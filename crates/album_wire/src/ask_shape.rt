@@ -2,7 +2,7 @@
 ghost use Rattle.std.specs.Prelude.{◌≡◌, map};
 ghost use Rattle.album_stamps.specs.Outcome.{Gives};
 ghost use Rattle.album_lines.specs.Fields.{each};
-ghost use Rattle.album_wire.specs.AskShape.{spelled_new_list, spelled_new_membership, spelled_ask, read_shape_of, list_shape_of, get_list_shape_of, add_picture_shape_of, add_album_shape_of, retitle_shape_of, replace_shape_of, delete_shape_of, move_shape_of, new_list_shape_of, set_lists_shape_of, set_owner_shape_of, set_members_shape_of, new_membership_shape_of, share_shape_of, shape_by_word, ask_shape_of};
+ghost use Rattle.album_wire.specs.AskShape.{spelled_new_list, spelled_new_membership, spelled_ask, read_shape_of, list_shape_of, get_list_shape_of, head_ask_shape_of, children_shape_of, add_picture_shape_of, add_album_shape_of, add_group_shape_of, retitle_shape_of, replace_shape_of, delete_shape_of, move_shape_of, new_list_shape_of, set_lists_shape_of, set_owner_shape_of, set_members_shape_of, new_membership_shape_of, share_shape_of, shape_by_word, ask_shape_of};
 ghost use Rattle.album_lines.specs.Trees.{value_data, items_data};
 
 use crate::item_shapes::{item_named, item_under};
@@ -41,6 +41,12 @@ pub(crate) enum AskShape<'a> {
     GetList {
         object: ItemId,
     },
+    Head {
+        object: ItemId,
+    },
+    Children {
+        album: ItemId,
+    },
     AddPicture {
         album: ItemId,
         title: &'a str,
@@ -49,6 +55,10 @@ pub(crate) enum AskShape<'a> {
     AddAlbum {
         album: ItemId,
         title: &'a str,
+    },
+    AddGroup {
+        album: ItemId,
+        members: Vec<&'a str>,
     },
     Retitle {
         object: ItemId,
@@ -98,8 +108,11 @@ fn shape_by_word<'a>(alloc: Global, word: &str, value: &Value<'a>) -> Result<Ask
         "read" => read_shape(value),
         "list" => list_shape(value),
         "get_list" => get_list_shape(value),
+        "head" => head_ask_shape(value),
+        "children" => children_shape(value),
         "add_picture" => add_picture_shape(value),
         "add_album" => add_album_shape(value),
+        "add_group" => add_group_shape(alloc, value),
         "retitle" => retitle_shape(value),
         "replace" => replace_shape(value),
         "delete" => delete_shape(value),
@@ -139,6 +152,24 @@ fn get_list_shape<'a>(value: &Value<'a>) -> Result<AskShape<'a>, Refusal>
     Ok(AskShape::GetList { object })
 }
 
+#[tactic(auto, unfolding(crate::specs::AskShape::head_ask_shape_of))]
+fn head_ask_shape<'a>(value: &Value<'a>) -> Result<AskShape<'a>, Refusal>
+    ensures { Gives spelled_ask result (head_ask_shape_of (value_data value.now)) }
+{
+    only(value, &["do", "object"])?;
+    let object = item_under(value, "object")?;
+    Ok(AskShape::Head { object })
+}
+
+#[tactic(auto, unfolding(crate::specs::AskShape::children_shape_of))]
+fn children_shape<'a>(value: &Value<'a>) -> Result<AskShape<'a>, Refusal>
+    ensures { Gives spelled_ask result (children_shape_of (value_data value.now)) }
+{
+    only(value, &["do", "album"])?;
+    let album = item_under(value, "album")?;
+    Ok(AskShape::Children { album })
+}
+
 #[tactic(auto, unfolding(crate::specs::AskShape::add_picture_shape_of))]
 fn add_picture_shape<'a>(value: &Value<'a>) -> Result<AskShape<'a>, Refusal>
     ensures { Gives spelled_ask result (add_picture_shape_of (value_data value.now)) }
@@ -162,6 +193,16 @@ fn add_album_shape<'a>(value: &Value<'a>) -> Result<AskShape<'a>, Refusal>
     let album = item_under(value, "album")?;
     let title = text_under(value, "title")?;
     Ok(AskShape::AddAlbum { album, title })
+}
+
+#[tactic(auto, unfolding(crate::specs::AskShape::add_group_shape_of))]
+fn add_group_shape<'a>(alloc: Global, value: &Value<'a>) -> Result<AskShape<'a>, Refusal>
+    ensures { Gives spelled_ask result (add_group_shape_of (value_data value.now)) }
+{
+    only(value, &["do", "album", "members"])?;
+    let album = item_under(value, "album")?;
+    let members = texts(alloc, field(value, "members")?)?;
+    Ok(AskShape::AddGroup { album, members })
 }
 
 #[tactic(auto, unfolding(crate::specs::AskShape::retitle_shape_of))]

@@ -2,7 +2,7 @@
 ghost use Rattle.std.specs.Prelude.{◌≡◌, Ok, Err, map};
 ghost use Rattle.album_stamps.specs.Outcome.{Gives};
 ghost use Rattle.album_lines.specs.Values.{each_of};
-ghost use Rattle.album_wire.specs.AskShape.{AddPicture, AddAlbum, Retitle, Replace, SetLists, SetOwner, SetMembers, Share, spelled_new_list, spelled_new_membership, spelled_ask};
+ghost use Rattle.album_wire.specs.AskShape.{AddPicture, AddAlbum, AddGroup, Retitle, Replace, SetLists, SetOwner, SetMembers, Share, spelled_new_list, spelled_new_membership, spelled_ask};
 ghost use Rattle.album_wire.specs.Asks.{new_list_read, new_membership_read, ask_read};
 
 use crate::ask_shape::{AskShape, NewListShape, NewMembershipShape};
@@ -26,12 +26,15 @@ pub(crate) fn ask_of(alloc: Global, shape: &AskShape) -> Result<Ask, Refusal>
         AskShape::Read { object } => Ok(Ask::Read { object: *object }),
         AskShape::List { album } => Ok(Ask::List { album: *album }),
         AskShape::GetList { object } => Ok(Ask::GetList { object: *object }),
+        AskShape::Head { object } => Ok(Ask::Head { object: *object }),
+        AskShape::Children { album } => Ok(Ask::Children { album: *album }),
         AskShape::AddPicture {
             album,
             title,
             content,
         } => add_picture(alloc, *album, title, content),
         AskShape::AddAlbum { album, title } => add_album(alloc, *album, title),
+        AskShape::AddGroup { album, members } => add_group(alloc, *album, members),
         AskShape::Retitle { object, title } => retitle(alloc, *object, title),
         AskShape::Replace { object, content } => replace(alloc, *object, content),
         AskShape::Delete { object } => Ok(Ask::Delete { object: *object }),
@@ -69,6 +72,17 @@ fn add_album(alloc: Global, album: ItemId, text: &str) -> Result<Ask, Refusal>
 {
     let title = title(alloc, text)?;
     Ok(Ask::AddAlbum { album, title })
+}
+
+#[tactic(auto, unfolding(crate::specs::Asks::ask_read))]
+fn add_group(alloc: Global, album: ItemId, texts: &[&str]) -> Result<Ask, Refusal>
+    ensures { Gives (λ ask. ask) result (ask_read (AddGroup album (map (λ text. text.now) texts.now))) }
+{
+    let members = members(alloc, texts)?;
+    Ok(Ask::AddGroup {
+        album,
+        members: Members::of(members),
+    })
 }
 
 #[tactic(auto, unfolding(crate::specs::Asks::ask_read))]

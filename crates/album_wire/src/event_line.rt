@@ -67,6 +67,21 @@ pub fn worked_events()
         (codes "{\"ask\":{\"do\":\"retitle\",\"object\":\"picture/0\",\"title\":\"Bay\"},\"client\":1,"
         ++ codes "\"who\":\"amy@users\"}")
         ≡ Ok (Spelled.One (Event.Ask 1 (Principal.User (codes "amy")) (Ask.Retitle (picture 0) (codes "Bay")))) }
+    ensures head { event_line_of
+        (codes "{\"ask\":{\"do\":\"head\",\"object\":\"picture/1\"},\"client\":1,\"who\":\"amy@users\"}")
+        ≡ Ok (Spelled.One (Event.Ask 1 (Principal.User (codes "amy")) (Ask.Head (picture 1)))) }
+    ensures children { event_line_of
+        (codes "{\"ask\":{\"album\":\"album/1\",\"do\":\"children\"},\"client\":1,\"who\":\"amy@users\"}")
+        ≡ Ok (Spelled.One (Event.Ask 1 (Principal.User (codes "amy")) (Ask.Children (album 1)))) }
+    // The album is named as an object.
+    ensures children_of_object { event_line_of
+        (codes "{\"ask\":{\"do\":\"children\",\"object\":\"album/1\"},\"client\":1,\"who\":\"amy@users\"}")
+        ≡ Err Refusal.BadRequest }
+    ensures group_added { event_line_of
+        (codes "{\"ask\":{\"album\":\"album/1\",\"do\":\"add_group\",\"members\":[\"amy@users\",\"7@groups\"]},"
+        ++ codes "\"client\":1,\"who\":\"amy@users\"}")
+        ≡ Ok (Spelled.One (Event.Ask 1 (Principal.User (codes "amy")) (Ask.AddGroup (album 1)
+        (member.User (codes "amy") ∷ member.Group 7 ∷ [])))) }
     // A group is named for its list and for its members.
     ensures shared { event_line_of
         (codes "{\"ask\":{\"do\":\"share\",\"lists\":[[\"group/7\",[]]],\"members\":[[\"group/7\",[\"3@groups\"]]]},"

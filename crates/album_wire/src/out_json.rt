@@ -1,23 +1,23 @@
 //! The lines of an event's outputs: its notes, its answers, and in a trace its messages.
 ghost use Rattle.std.specs.Prelude.{◌≡◌, ◌++◌, [], ◌∷◌, true, Some, None, codes, option_map, false, map, IfOk, IsOkUnless};
 ghost use Rattle.serde_json.specs.View.{view, members_view};
-ghost use Rattle.album_items.specs.ItemIds.{picture, album};
+ghost use Rattle.album_items.specs.ItemIds.{picture, album, group};
 ghost use Rattle.album_wire.specs.MessageJson.{message_json};
 ghost use Rattle.album_wire.specs.ValueJson.{members_named};
-ghost use Rattle.album_wire.specs.OutJson.{note_fields, note_json, answer_fields, answer_about, row_json, rows_json, picture_served, group_served, entries_served, listed_json, served_json, at_json, reason_json, reasons_json, denied_json, missing_json, why_word, busy_json, ended_json, unsettled_json, refused_json, answer_json, out_line};
-ghost use Rattle.album_wire.specs.ShownStamps.{served_shown, answer_shown, out_shown};
+ghost use Rattle.album_wire.specs.OutJson.{note_fields, note_json, at_json, reason_json, reasons_json, denied_json, missing_json, why_word, busy_json, ended_json, unsettled_json, refused_json, answer_json, out_line};
+ghost use Rattle.album_wire.specs.ShownStamps.{answer_shown, out_shown};
 ghost use Rattle.album_lines.specs.Output.{line_text};
 
 use crate::message_json::message_json;
-use crate::object_text::{begin_answer, end_line, put_number, put_text};
-use crate::value_json::{entries_json, item_json, item_text, members_json};
+use crate::object_text::{begin_answer, end_line, put_number};
+use crate::served_json::{answer_fields, served_line};
+use crate::value_json::item_json;
 use album_calls::Message;
 use album_eval::Verdict;
-use album_items::{Content, FirstStamps, ItemId, Title};
+use album_items::{FirstStamps, ItemId};
 use album_lines::{array_of, json_line, object_of, with_item, with_member};
-use album_listing::{Reason, Row};
-use album_lists::{Ace, Member};
-use album_permits::{Answer, Note, Out, Served};
+use album_listing::Reason;
+use album_permits::{Answer, Attributes, Note, Out, Served};
 use album_stamps::{ClientNo, Refusal, Stamp};
 use album_views::Why;
 use bitflags::Flags;
@@ -108,6 +108,30 @@ pub fn worked_outs()
         None
         ≡ codes "{\"answer\":\"listed\",\"client\":2,\"object\":\"album/0\",\"rows\":[[\"picture/0\","
         ++ codes "\"Sea\"]],\"stamp\":0}\n" }
+    ensures head_of_picture { out_line
+        (Out.Answered 2 (Answer.Served (Served.Head (picture 1) 65537
+        (Attributes.Picture (record { owner = codes "amy"; group = 3; list = 4 }) (codes "Bay") 5))))
+        None
+        ≡ codes "{\"answer\":\"served\",\"client\":2,\"group\":3,\"home\":5,\"list\":4,\"object\":\"picture/1\","
+        ++ codes "\"owner\":\"amy@users\",\"stamp\":65537,\"title\":\"Bay\"}\n" }
+    // An album without a home.
+    ensures head_of_album { out_line
+        (Out.Answered 2 (Answer.Served (Served.Head (album 1) 0
+        (Attributes.Album (record { owner = codes "amy"; group = 3; list = 4 }) (codes "Trips") None 7))))
+        None
+        ≡ codes "{\"answer\":\"served\",\"client\":2,\"count\":7,\"group\":3,\"home\":null,\"list\":4,"
+        ++ codes "\"object\":\"album/1\",\"owner\":\"amy@users\",\"stamp\":0,\"title\":\"Trips\"}\n" }
+    ensures head_of_group { out_line
+        (Out.Answered 2 (Answer.Served (Served.Head (group 1) 65537
+        (Attributes.Group (record { owner = codes "amy"; group = 3; list = 4 }) 1))))
+        None
+        ≡ codes "{\"answer\":\"served\",\"client\":2,\"count\":1,\"group\":3,\"list\":4,\"object\":\"group/1\","
+        ++ codes "\"owner\":\"amy@users\",\"stamp\":65537}\n" }
+    ensures children { out_line
+        (Out.Answered 2 (Answer.Served (Served.Children (album 1) 65537 (picture 1 ∷ album 2 ∷ []))))
+        None
+        ≡ codes "{\"answer\":\"served\",\"children\":[\"picture/1\",\"album/2\"],\"client\":2,\"object\":\"album/1\","
+        ++ codes "\"stamp\":65537}\n" }
     ensures denied { out_line (Out.Answered 2 (Answer.Denied (
         record { object = picture 0; mask = record { 0 = 65536 }; verdict = Verdict.DeniedBy 0 }
         ∷ record { object = album 0; mask = record { 0 = 64 }; verdict = Verdict.DeniedAtEnd }
@@ -164,74 +188,6 @@ fn answer_line(
     }
 }
 
-fn served_line(
-    alloc: Global,
-    stamps: &FirstStamps,
-    client: ClientNo,
-    served: &Served,
-) -> Result<Vec<u8>, AllocError>
-    ensures { IfOk result
-        (λ bytes. bytes.items ≡ line_text (served_json client (served_shown stamps.now served.now))) }
-{
-    match served {
-        Served::Picture {
-            object,
-            stamp,
-            title,
-            content,
-        } => {
-            let stamp = stamps.shown(*object, *stamp);
-            picture_line(alloc, client, *object, stamp, title, content)
-        }
-        Served::Group {
-            object,
-            stamp,
-            members,
-        } => {
-            let stamp = stamps.shown(*object, *stamp);
-            let served = group_served(alloc, client, *object, stamp, members.as_slice());
-            json_line(alloc, served)
-        }
-        Served::Entries {
-            object,
-            of,
-            stamp,
-            list,
-        } => {
-            let stamp = stamps.shown(*of, *stamp);
-            let served = entries_served(alloc, client, *object, stamp, list.entries());
-            json_line(alloc, served)
-        }
-        Served::Listed { album, stamp, rows } => {
-            let stamp = stamps.shown(*album, *stamp);
-            let served = listed_json(alloc, client, *album, stamp, rows.as_slice());
-            json_line(alloc, served)
-        }
-    }
-}
-
-/// Most answers are pictures and writes that ended: these are written straight.
-fn picture_line(
-    alloc: Global,
-    client: ClientNo,
-    object: ItemId,
-    stamp: Stamp,
-    title: &Title,
-    content: &Content,
-) -> Result<Vec<u8>, AllocError>
-    ensures { IfOk result
-        (λ bytes. bytes.items ≡ line_text (picture_served client object stamp title.now content.now)) }
-{
-    let content = hex::encode(alloc, content.as_slice())?;
-    let object = item_text(alloc, object)?;
-    let mut out = begin_answer(alloc, "served", client)?;
-    put_text(&mut out, "content", content.as_str())?;
-    put_text(&mut out, "object", object.as_str())?;
-    put_number(&mut out, "stamp", stamp.value())?;
-    put_text(&mut out, "title", title.as_str())?;
-    end_line(out)
-}
-
 /// A write that ended, by the word that says how.
 fn ended_line(
     alloc: Global,
@@ -267,93 +223,6 @@ pub(crate) fn note_fields(
     let fields = with_member(alloc, fields, "mask", Ok(Value::from(note.mask.bits())));
     let fields = with_member(alloc, fields, "object", item_json(alloc, note.object));
     with_member(alloc, fields, "success", Ok(Value::from(note.success)))
-}
-
-fn group_served(
-    alloc: Global,
-    client: ClientNo,
-    object: ItemId,
-    stamp: Stamp,
-    members: &[Member],
-) -> Result<Value, AllocError>
-    ensures { IfOk result (λ v. view v ≡ group_served client object stamp members.now) }
-{
-    let fields = answer_about(alloc, "served", client, object, stamp);
-    object_of(with_member(alloc, fields, "members", members_json(alloc, members)))
-}
-
-/// The stamp is that of the list.
-fn entries_served(
-    alloc: Global,
-    client: ClientNo,
-    object: ItemId,
-    stamp: Stamp,
-    entries: &[Ace],
-) -> Result<Value, AllocError>
-    ensures { IfOk result (λ v. view v ≡ entries_served client object stamp entries.now) }
-{
-    let fields = answer_about(alloc, "served", client, object, stamp);
-    object_of(with_member(alloc, fields, "entries", entries_json(alloc, entries)))
-}
-
-fn listed_json(
-    alloc: Global,
-    client: ClientNo,
-    album: ItemId,
-    stamp: Stamp,
-    rows: &[Row],
-) -> Result<Value, AllocError>
-    ensures { IfOk result (λ v. view v ≡ listed_json client album stamp rows.now) }
-{
-    let fields = answer_about(alloc, "listed", client, album, stamp);
-    object_of(with_member(alloc, fields, "rows", rows_json(alloc, rows)))
-}
-
-/// What an answer begins with, and the object and the stamp that it is of.
-fn answer_about(
-    alloc: Global,
-    word: &str,
-    client: ClientNo,
-    object: ItemId,
-    stamp: Stamp,
-) -> Result<Map<String, Value>, AllocError>
-    ensures { IfOk result
-        (λ fields. members_view fields.entries ≡ members_named (answer_about word.now client object stamp)) }
-{
-    let fields = answer_fields(alloc, word, client);
-    let fields = with_member(alloc, fields, "object", item_json(alloc, object));
-    with_member(alloc, fields, "stamp", Ok(Value::from(stamp.value())))
-}
-
-/// What an answer begins with: the word that says which, and the client.
-fn answer_fields(
-    alloc: Global,
-    word: &str,
-    client: ClientNo,
-) -> Result<Map<String, Value>, AllocError>
-    ensures { IfOk result (λ fields. members_view fields.entries ≡ members_named (answer_fields word.now client)) }
-{
-    let answer = Value::try_from_str(alloc, word);
-    let fields = with_member(alloc, Ok(Map::new(alloc)), "answer", answer);
-    with_member(alloc, fields, "client", Ok(Value::from(client.number())))
-}
-
-fn rows_json(alloc: Global, rows: &[Row]) -> Result<Value, AllocError>
-    ensures { IfOk result (λ v. view v ≡ rows_json rows.now) }
-{
-    let mut values = Vec::with_capacity(alloc, rows.len());
-    for row in rows {
-        values = with_item(values, row_json(alloc, row));
-    }
-    array_of(values)
-}
-
-/// [item, title]
-fn row_json(alloc: Global, row: &Row) -> Result<Value, AllocError>
-    ensures { IfOk result (λ v. view v ≡ row_json row.now) }
-{
-    let pair = with_item(Ok(Vec::new(alloc)), item_json(alloc, row.item));
-    array_of(with_item(pair, Value::try_from_str(alloc, row.title.as_str())))
 }
 
 fn denied_json(alloc: Global, client: ClientNo, reasons: &[Reason]) -> Result<Value, AllocError>

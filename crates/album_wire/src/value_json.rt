@@ -1,11 +1,11 @@
 //! The JSON values of what items hold: whos, entries and members, and the values of items.
-ghost use Rattle.std.specs.Prelude.{◌≡◌, string_bytes, IfOk};
+ghost use Rattle.std.specs.Prelude.{◌≡◌, string_bytes, IfOk, IsOkAnd};
 ghost use Rattle.hex.specs.Hex.{encode_lower};
 ghost use Rattle.album_items.specs.ItemIds.{text_of};
 ghost use Rattle.serde_json.specs.Data.{string};
 ghost use Rattle.serde_json.specs.View.{view, members_view};
 ghost use Rattle.album_lines.specs.Spelling.{type_word};
-ghost use Rattle.album_wire.specs.ValueJson.{members_named, owner_text, group_text, who_text, member_text, item_json, item_list_json, content_json, entry_json, entries_json, member_json, members_json, head_fields, picture_json, album_json, list_json, group_json, value_json};
+ghost use Rattle.album_wire.specs.ValueJson.{members_named, owner_text, group_text, who_text, member_text, item_json, item_list_json, content_json, entry_json, entries_json, member_json, members_json, head_fields, with_head, picture_json, album_json, list_json, group_json, value_json};
 
 use album_access::AceType;
 use album_items::{Album, Content, Group, Head, ItemId, Picture};
@@ -69,7 +69,18 @@ fn group_json(alloc: Global, group: &Group) -> Result<Value, AllocError>
 fn head_fields(alloc: Global, head: &Head) -> Result<Map<String, Value>, AllocError>
     ensures { IfOk result (λ fields. members_view fields.entries ≡ members_named (head_fields head.now)) }
 {
-    let fields = Ok(Map::new(alloc));
+    with_head(alloc, Ok(Map::new(alloc)), head)
+}
+
+/// The members and what every object has of its head.
+pub(crate) fn with_head(
+    alloc: Global,
+    fields: Result<Map<String, Value>, AllocError>,
+    head: &Head,
+) -> Result<Map<String, Value>, AllocError>
+    ensures { IfOk result (λ new. IsOkAnd fields (λ old.
+        members_view new.entries ≡ with_head head.now (members_view old.entries))) }
+{
     let fields = with_member(alloc, fields, "group", Ok(Value::from(head.group)));
     let fields = with_member(alloc, fields, "list", Ok(Value::from(head.list)));
     with_member(alloc, fields, "owner", owner_json(alloc, &head.owner))

@@ -5,7 +5,7 @@ use Rattle.std.specs.List.{list_all, list_any, flat_map}
 use Rattle.std.specs.Option.{unwrap_or, option_map_or}
 use Rattle.std.proofs.lemmas.Bool.{leb-true}
 use Rattle.album_items.specs.ItemBack.{number_of-item}
-use Rattle.album_items.specs.ItemIds.{picture, album, list, number_of}
+use Rattle.album_items.specs.ItemIds.{item, list, number_of}
 use Rattle.album_items.specs.Openings.{Row, is_low, are_low, has_low_numbers, is_low_row, greatest_number}
 use Rattle.album_items.specs.Values.{head_of, list_of}
 use Rattle.album_items.specs.declared.openings.Opening.{Opening}
@@ -13,7 +13,10 @@ use Rattle.album_items.specs.declared.values.Value.{Value}
 use Rattle.album_items.specs.declared.values.Value.TheVariants as value
 use Rattle.album_partition.specs.Marks.{value_in, first_value}
 use Rattle.album_reader.specs.Atomic.{IsReadAtomic, IsWrittenBy}
+use Rattle.album_views.specs.Asks.{made_by}
 use Rattle.album_views.specs.Seen.{seen}
+use Rattle.album_views.specs.declared.asks.Ask.{Ask}
+use Rattle.album_views.specs.declared.asks.Ask.TheVariants as ask
 use Rattle.album_listing.specs.Reasons.{is_granted_on}
 use Rattle.album_listing.specs.declared.reasons.Alternative.{Alternative}
 use Rattle.album_permits.proofs.Granting.{basis_for, needs-met}
@@ -150,14 +153,35 @@ first_missing top items item right high = go (value_in items item) refl
         absurd (omega (arith, number, high))
 
 -- a new item has the stamp for its number
-pub new_number : (stamp item : ℕ) → Contains (picture stamp ∷ album stamp ∷ list stamp ∷ []) item → number_of item ≡ stamp
-new_number stamp item c = ⊎_elim
-    (λ (e : item ≡ picture stamp). ap number_of e ∙ number_of-item 0 stamp (omega arith))
-    (λ k. ⊎_elim
-    (λ (e : item ≡ album stamp). ap number_of e ∙ number_of-item 1 stamp (omega arith))
-    (λ l. ap number_of (in_one l) ∙ number_of-item 2 stamp (omega arith))
-    (in_uncons k))
-    (in_uncons (within (picture stamp ∷ album stamp ∷ list stamp ∷ []) c))
+pub new_number : (asked : Ask) (stamp new : ℕ) → Contains (made_by asked stamp) new → number_of new ≡ stamp
+new_number asked stamp new = by_ask asked
+  where
+    none : Contains [] new → number_of new ≡ stamp
+    none c = in_nil (within [] c)
+
+    pair : (code : ℕ) → code < 4 → Contains (item code stamp ∷ list stamp ∷ []) new → number_of new ≡ stamp
+    pair code small c = ⊎_elim
+        (λ (e : new ≡ item code stamp). ap number_of e ∙ number_of-item code stamp small)
+        (λ l. ap number_of (in_one l) ∙ number_of-item 2 stamp (omega arith))
+        (in_uncons (within (item code stamp ∷ list stamp ∷ []) c))
+
+    by_ask : (a : Ask) → Contains (made_by a stamp) new → number_of new ≡ stamp
+    by_ask (ask.Read object) = none
+    by_ask (ask.List into) = none
+    by_ask (ask.GetList object) = none
+    by_ask (ask.Head object) = none
+    by_ask (ask.Children into) = none
+    by_ask (ask.AddPicture into title content) = pair 0 (omega arith)
+    by_ask (ask.AddAlbum into title) = pair 1 (omega arith)
+    by_ask (ask.AddGroup into members) = pair 3 (omega arith)
+    by_ask (ask.Retitle object title) = none
+    by_ask (ask.Replace object content) = none
+    by_ask (ask.Delete object) = none
+    by_ask (ask.Move object to) = none
+    by_ask (ask.SetLists lists) = none
+    by_ask (ask.SetOwner object owner number) = none
+    by_ask (ask.SetMembers object members) = none
+    by_ask (ask.Share lists members) = none
 
 module _ (o : Opening) (w : World) (right : list_all (is_low_row (greatest_number o.first)) o.items ≡ true)
     (granted : (by : Transaction) → Contains w.past.transactions by → IsGranted (terms_of o) w by)
@@ -210,14 +234,14 @@ module _ (o : Opening) (w : World) (right : list_all (is_low_row (greatest_numbe
       there_is object c = sees object (changed_there by.permit (granted by begun).granted object c)
 
       item_aged : (item : ℕ) → MayWrite (seen by.permit.view.rows) by.stamp by.permit.view.ask item → IsOld top item by.stamp
-      item_aged item (New new adding c) =
-          record { known = λ high. let e : number_of item ≡ by.stamp = new_number by.stamp item c in omega (arith, e) }
+      item_aged item (New new c) =
+          record { known = λ high. let e : number_of item ≡ by.stamp = new_number by.permit.view.ask by.stamp item c in omega (arith, e) }
       item_aged item (Object object c) = (there_is object c).own
       item_aged item (ListOf object other c whose) = (there_is object c).lists item whose
 
       lists_aged : IsWrittenAs (seen by.permit.view.rows) by.stamp by.permit.view.ask i v → (number : ℕ)
           → Contains (list_of v) number → IsOld top number by.stamp
-      lists_aged (Made adding c own) number l =
+      lists_aged (Made c own) number l =
           let e : number ≡ list by.stamp = own number l in
           let q : number_of (list by.stamp) ≡ by.stamp = number_of-item 2 by.stamp (omega arith) in
           record { known = λ high. let a : number_of number ≡ by.stamp = ap number_of e ∙ q in omega (arith, a) }

@@ -16,6 +16,7 @@ use Rattle.album_reader.specs.Answers.{ReadVersion}
 use Rattle.album_reader.specs.Atomic.{IsWrittenBy}
 use Rattle.album_listing.specs.Fields.{title_field, content_field}
 use Rattle.album_views.proofs.Flaws.{no_flaw}
+use Rattle.album_views.specs.Asks.{made_by}
 use Rattle.album_views.specs.Checks.{has_kinds, has_single_objects}
 use Rattle.album_views.specs.Seen.{seen}
 use Rattle.album_views.specs.declared.asks.Ask.{Ask}
@@ -38,7 +39,7 @@ use Rattle.album_world.specs.Staying.HandsOver.{Deletes}
 use Rattle.album_world.specs.Staying.SetsList.{Deletes as DeletesHolder}
 use Rattle.album_world.proofs.AgeLemmas.{ages, first_missing, new_number, pair_in}
 use Rattle.album_world.proofs.AnsweredLemmas.{never_discarded}
-use Rattle.album_world.proofs.ListLemmas.{contains, in_nil, in_one, in_uncons, within}
+use Rattle.album_world.proofs.ListLemmas.{contains, in_nil, in_one, within}
 use Rattle.album_world.proofs.MarkLemmas.{version_is}
 use Rattle.album_world.proofs.PlaceLemmas.{place_in, item_in}
 use Rattle.album_world.proofs.PromiseLemmas.{outcomes_are_true, views_are_read_atomic, writes_are_granted}
@@ -70,19 +71,6 @@ deleted_kind object kinds =
 not_listed : {P : Type 0} (kind i : ℕ) (v : Value) → kind_of i ≡ kind → kind ≢ 2 → Contains (list_of v) i → P
 not_listed kind i v is other c = absurd (other (sym is ∙ list_kind v i c))
 
--- what is made is no group
-new_kind : (stamp i : ℕ) → Contains (picture stamp ∷ album stamp ∷ list stamp ∷ []) i → kind_of i ≡ 3 → ⊥
-new_kind stamp i c group_is = ⊎_elim
-    (λ (e : i ≡ picture stamp). let k : kind_of i ≡ 0 = ap kind_of e ∙ kind_of-item 0 stamp (omega arith) in
-    omega (arith, k, group_is))
-    (λ k. ⊎_elim
-    (λ (e : i ≡ album stamp). let k : kind_of i ≡ 1 = ap kind_of e ∙ kind_of-item 1 stamp (omega arith) in
-    omega (arith, k, group_is))
-    (λ l. let k : kind_of i ≡ 2 = ap kind_of (in_one l) ∙ kind_of-item 2 stamp (omega arith) in
-    omega (arith, k, group_is))
-    (in_uncons k))
-    (in_uncons (within (picture stamp ∷ album stamp ∷ list stamp ∷ []) c))
-
 module _ (o : Opening) (es : List Event) (opens : is_base_opening o ≡ true) where
   abbrev pub w : World
   w = run_of o es
@@ -90,10 +78,10 @@ module _ (o : Opening) (es : List Event) (opens : is_base_opening o ≡ true) wh
   -- what has a version is not made anew at a greater stamp, unless that is the opening's, and missing
   not_made : {P : Type 0} (i first : ℕ) (was : Value) (by : Transaction) → IsVersion o w i first was
       → Contains w.past.transactions by → first < by.stamp
-      → Contains (picture by.stamp ∷ album by.stamp ∷ list by.stamp ∷ []) i
+      → Contains (made_by by.permit.view.ask by.stamp) i
       → (first ≡ 0 → was ≡ value.Missing → ⊥) → P
   not_made i first was by from begun above new there =
-      let number : number_of i ≡ by.stamp = new_number by.stamp i new in
+      let number : number_of i ≡ by.stamp = new_number by.permit.view.ask by.stamp i new in
       let drawn : greatest_number o.first < by.stamp = stamps_high o es opens by begun in
       let high : greatest_number o.first < number_of i = omega (arith, number, drawn) in
       absurd (⊎_elim
@@ -142,7 +130,7 @@ module _ (o : Opening) (es : List Event) (opens : is_base_opening o ≡ true) wh
 
     module _ (i first last : ℕ) (was is : Value) (after : IsLaterVersion o w i first last was is) where
       not_new : {P : Type 0} (by : Transaction) (v : Value) → IsBetween (terms_of o) w i first last by v
-          → Contains (picture by.stamp ∷ album by.stamp ∷ list by.stamp ∷ []) i → (first ≡ 0 → was ≡ value.Missing → ⊥) → P
+          → Contains (made_by by.permit.view.ask by.stamp) i → (first ≡ 0 → was ≡ value.Missing → ⊥) → P
       not_new by v between = not_made i first was by after.earlier between.begun between.above
 
       child_stays :
@@ -154,7 +142,7 @@ module _ (o : Opening) (es : List Event) (opens : is_base_opening o ≡ true) wh
           each : (by : Transaction) (v : Value) → IsBetween (terms_of o) w i first last by v → IsGranted (terms_of o) w by
               → IsWrittenAs (seen by.permit.view.rows) by.stamp by.permit.view.ask i v
               → Contains (children_of (seen by.permit.view.rows i)) child → Contains (children_of v) child
-          each by v between g (Made adding new own) p = not_new by v between new
+          each by v between g (Made new own) p = not_new by v between new
               (λ zero e. in_nil (within [] (subst (λ (x : Value). Contains (children_of x) child) e there)))
           each by v between g (Rewritten subject r) p = ⊎_elim (λ c. c) (λ t. absurd (none by v between t)) (r.children child p)
           each by v between g (Gone object subject asked whose e) p =
@@ -173,7 +161,7 @@ module _ (o : Opening) (es : List Event) (opens : is_base_opening o ≡ true) wh
           each : (by : Transaction) (v : Value) → IsBetween (terms_of o) w i first last by v → IsGranted (terms_of o) w by
               → IsWrittenAs (seen by.permit.view.rows) by.stamp by.permit.view.ask i v
               → F (seen by.permit.view.rows i) ≡ x → F v ≡ x
-          each by v between g (Made adding new own) p = not_new by v between new (λ zero e. had (sym (ap F e) ∙ there))
+          each by v between g (Made new own) p = not_new by v between new (λ zero e. had (sym (ap F e) ∙ there))
           each by v between g (Rewritten subject r) p = ⊎_elim (λ e. e ∙ p) (λ t. absurd (none by v between t))
               (rewrites (seen by.permit.view.rows) by.stamp by.permit.view.ask v r)
           each by v between g (Gone object subject asked whose e) p = ⊎_elim
@@ -193,7 +181,7 @@ module _ (o : Opening) (es : List Event) (opens : is_base_opening o ≡ true) wh
           each : (by : Transaction) (v : Value) → IsBetween (terms_of o) w i first last by v → IsGranted (terms_of o) w by
               → IsWrittenAs (seen by.permit.view.rows) by.stamp by.permit.view.ask i v
               → seen by.permit.view.rows i ≡ value.List entries → v ≡ value.List entries
-          each by v between g (Made adding new own) p = not_new by v between new
+          each by v between g (Made new own) p = not_new by v between new
               (λ zero e. let other : value.Missing ≡ value.List entries = sym e ∙ there in cc)
           each by v between g (Rewritten subject r) p = r.entries entries p
           each by v between g (Gone object subject asked whose e) p = ⊎_elim
@@ -205,14 +193,15 @@ module _ (o : Opening) (es : List Event) (opens : is_base_opening o ≡ true) wh
           each by v between g (Listed object subject whose sets others e) p = absurd (none by v between sets)
 
       members_stay :
-          kind_of i ≡ 3 → NoneBetween (terms_of o) w (λ by. SetsMembers i by.permit.view.ask) i first last
+          kind_of i ≡ 3 → was ≢ value.Missing
+          → NoneBetween (terms_of o) w (λ by. SetsMembers i by.permit.view.ask) i first last
           → members_of is ≡ members_of was
-      members_stay kind none = keep (λ v. members_of v ≡ members_of was) i first last was is after each refl
+      members_stay kind there none = keep (λ v. members_of v ≡ members_of was) i first last was is after each refl
         where
           each : (by : Transaction) (v : Value) → IsBetween (terms_of o) w i first last by v → IsGranted (terms_of o) w by
               → IsWrittenAs (seen by.permit.view.rows) by.stamp by.permit.view.ask i v
               → members_of (seen by.permit.view.rows i) ≡ members_of was → members_of v ≡ members_of was
-          each by v between g (Made adding new own) p = absurd (new_kind by.stamp i new kind)
+          each by v between g (Made new own) p = not_new by v between new (λ zero e. there e)
           each by v between g (Rewritten subject r) p = ⊎_elim (λ e. e ∙ p) (λ t. absurd (none by v between t)) r.group
           each by v between g (Gone object subject asked whose e) p =
               not_gone 3 i object by kind (λ q. omega (arith, q)) (λ q. omega (arith, q)) g asked whose
@@ -225,7 +214,7 @@ module _ (o : Opening) (es : List Event) (opens : is_base_opening o ≡ true) wh
           each : (by : Transaction) (v : Value) → IsBetween (terms_of o) w i first last by v → IsGranted (terms_of o) w by
               → IsWrittenAs (seen by.permit.view.rows) by.stamp by.permit.view.ask i v
               → seen by.permit.view.rows i ≡ value.Missing → v ≡ value.Missing
-          each by v between g (Made adding new own) p = not_new by v between new (λ zero e. some zero)
+          each by v between g (Made new own) p = not_new by v between new (λ zero e. some zero)
           each by v between g (Rewritten subject r) p = r.gone p
           each by v between g (Gone object subject asked whose e) p = e
           each by v between g (Listed object subject whose sets entries e) p =
@@ -334,6 +323,7 @@ lists_stay o es number first last was is entries opens checked after =
 pub groups_stay :
     (o : Opening) (es : List Event) (number first last : ℕ) (was is : Value) → is_base_opening o ≡ true
     → o.checked ≡ true → IsLaterVersion o (run_of o es) (group number) first last was is
+    → was ≢ value.Missing
     → NoneBetween (terms_of o) (run_of o es) (λ by. SetsMembers (group number) by.permit.view.ask) (group number) first last
     → members_of is ≡ members_of was
 groups_stay o es number first last was is opens checked after =

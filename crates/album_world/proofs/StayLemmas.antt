@@ -1,9 +1,9 @@
 -- What is committed stays in a checked world: the law `what_is_committed_stays` cites `made_from` and the lemma of its
 -- name.
-use Rattle.std.proofs.Common.{◌≡◌, ◌≢◌, ℕ, zero, suc, ◌<◌, ◌≤◌, ◌+◌, ◌*◌, ◌&&◌, Bool, true, false, List, [], ◌∷◌, Contains, Some, None, is_some, ◌==◌, ◌⊎◌, inl, inr, ⊎_elim, if◌then◌else◌, refl, sym, ap, ◌∙◌, subst, arith}
+use Rattle.std.proofs.Common.{◌≡◌, ◌≢◌, ℕ, zero, suc, ◌<◌, ◌≤◌, ◌+◌, ◌*◌, ◌&&◌, Bool, true, false, List, Contains, Some, None, is_some, ◌==◌, ◌⊎◌, inl, inr, ⊎_elim, if◌then◌else◌, refl, sym, ap, ◌∙◌, subst, arith}
 use Rattle.std.specs.List.{list_any, list_all}
 use Rattle.std.proofs.lemmas.Bool.{eqb-true, eqb-false}
-use Rattle.album_items.specs.ItemIds.{picture, album, list, number_of, place_of}
+use Rattle.album_items.specs.ItemIds.{number_of, place_of}
 use Rattle.album_items.specs.Openings.{Row, is_base_opening, has_counts, has_own_value, has_single_rows, is_low_row, greatest_number}
 use Rattle.album_items.specs.declared.openings.Opening.{Opening}
 use Rattle.album_items.specs.declared.values.Value.{Value}
@@ -14,6 +14,7 @@ use Rattle.album_partition.specs.Bases.{IsMadeOn}
 use Rattle.album_partition.specs.Marks.{commits, discards, prepares, state_by, state_of, value_in, version, first_value, latest}
 use Rattle.album_partition.proofs.StateLemmas.{committed_tells}
 use Rattle.album_reader.specs.Atomic.{IsReadAtomic, IsWrittenBy}
+use Rattle.album_views.specs.Asks.{made_by}
 use Rattle.album_views.specs.ReadSets.{IsNamed}
 use Rattle.album_views.specs.ReadSets.IsNamed.{Subject, ListOf}
 use Rattle.album_views.specs.Seen.{seen}
@@ -120,7 +121,7 @@ module _ (o : Opening) (w : World) (granted : WritesAreGranted (terms_of o) w) (
   -- what a write does not make is in its view
   read_or_made :
       (by : Transaction) (i : ℕ) (v : Value) → Contains w.past.transactions by → value_in by.writes i ≡ Some v
-      → IsShownBy by.permit.view.rows i ⊎ Contains (picture by.stamp ∷ album by.stamp ∷ list by.stamp ∷ []) i
+      → IsShownBy by.permit.view.rows i ⊎ Contains (made_by by.permit.view.ask by.stamp) i
   read_or_made by i v begun wrote_it =
       let g = granted.granted by begun in
       go (λ item named. shown_read by.permit.view.rows item (g.view.closed item named))
@@ -130,8 +131,8 @@ module _ (o : Opening) (w : World) (granted : WritesAreGranted (terms_of o) w) (
       go :
           ((item : ℕ) → IsNamed (seen by.permit.view.rows) by.permit.view.looker by.permit.view.ask item → IsShownBy by.permit.view.rows item)
           → IsWrittenAs (seen by.permit.view.rows) by.stamp by.permit.view.ask i v
-          → IsShownBy by.permit.view.rows i ⊎ Contains (picture by.stamp ∷ album by.stamp ∷ list by.stamp ∷ []) i
-      go read (Made adding new own) = inr new
+          → IsShownBy by.permit.view.rows i ⊎ Contains (made_by by.permit.view.ask by.stamp) i
+      go read (Made new own) = inr new
       go read (Rewritten subject r) = inl (read i (Subject i subject))
       go read (Gone object subject asked whose e) = inl (⊎_elim
           (λ (same : object ≡ i). subst (IsShownBy by.permit.view.rows) same (read object (Subject object subject)))
@@ -146,7 +147,7 @@ module _ (o : Opening) (w : World) (granted : WritesAreGranted (terms_of o) w) (
   shows_first by i v begun wrote_it none = ⊎_elim of_row
       (λ (gone : seen by.permit.view.rows i ≡ Missing). ⊎_elim of_row
       (λ new. gone ∙ sym (first_missing (greatest_number o.first) o.items i right
-      (let number : number_of i ≡ by.stamp = new_number by.stamp i new in
+      (let number : number_of i ≡ by.stamp = new_number by.permit.view.ask by.stamp i new in
       let high : greatest_number o.first < by.stamp = drawn_high by begun in omega (arith, number, high))))
       (read_or_made by i v begun wrote_it))
       (shown_or_missing by.permit.view.rows i)

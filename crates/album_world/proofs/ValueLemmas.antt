@@ -1,6 +1,6 @@
 -- What each value that is written has of what the view shows, and of which subject it is (`written_as`). For
 -- `AgeLemmas`, `StayLemmas` and `KeepLemmas`.
-use Rattle.std.proofs.Common.{◌≡◌, ◌==◌, ℕ, Bool, true, false, not, List, [], ◌∷◌, ◌++◌, Contains, IsTrue, is_none, map, ◌⊎◌, inl, inr, refl, sym, ap, ◌∙◌, subst, arith}
+use Rattle.std.proofs.Common.{◌≡◌, ◌==◌, ℕ, Bool, true, false, not, List, [], ◌∷◌, ◌++◌, Contains, is_none, map, ◌⊎◌, inl, inr, refl, sym, ap, ◌∙◌, subst, arith}
 use Rattle.std.specs.List.{flat_map}
 use Rattle.std.proofs.lemmas.Bool.{both_ways, eqb-true, not_from_false}
 use Rattle.std.proofs.lemmas.List.Elements.{Contains-append_left, Contains-append_right, Contains-push}
@@ -11,7 +11,7 @@ use Rattle.album_items.specs.ItemIds.{picture, album, list, number_of}
 use Rattle.album_items.specs.Values.{head_of, home_of, children_of, list_of, members_of}
 use Rattle.album_items.specs.declared.values.Value.{Value}
 use Rattle.album_items.specs.declared.values.Value.TheVariants as value
-use Rattle.album_views.specs.Asks.{Wanted, want, headed, once, objects_of, is_adding}
+use Rattle.album_views.specs.Asks.{Wanted, want, headed, once, objects_of, made_by}
 use Rattle.album_views.specs.ReadSets.{subjects_of}
 use Rattle.album_views.proofs.Sets.{has-Contains, Contains-has, all-new}
 use Rattle.album_views.specs.Seen.{seen}
@@ -52,8 +52,7 @@ module _ (shown : ℕ → Value) (stamp : ℕ) (asked : Ask) where
   -- how a value may come to be written to an item
   pub data IsWrittenAs (item : ℕ) (is : Value) : Type 0 where
     Made :
-        IsTrue (is_adding asked) → Contains (picture stamp ∷ album stamp ∷ list stamp ∷ []) item
-        → ((number : ℕ) → Contains (list_of is) number → number ≡ list stamp) → IsWrittenAs item is
+        Contains (made_by asked stamp) item → ((number : ℕ) → Contains (list_of is) number → number ≡ list stamp) → IsWrittenAs item is
     Rewritten : Contains (subjects_of shown asked) item → IsRewritten item (shown item) is → IsWrittenAs item is
     Gone :
         (object : ℕ) → Contains (subjects_of shown asked) object → asked ≡ ask.Delete object
@@ -227,20 +226,24 @@ module _ (shown : ℕ → Value) (me : Principal) (stamp : ℕ) where
   written_each (ask.Read object) = tt
   written_each (ask.List object) = tt
   written_each (ask.GetList object) = tt
+  written_each (ask.Head object) = tt
+  written_each (ask.Children object) = tt
   written_each (ask.AddPicture into title content) = let a : Ask = ask.AddPicture into title content in (
-    Made refl (0, omega arith, refl) (one-list stamp),
+    Made (0, omega arith, refl) (one-list stamp),
     (
-      Made refl (2, omega arith, refl) (λ n c. no-list n c),
+      Made (1, omega arith, refl) (λ n c. no-list n c),
       (Rewritten (first into []) (joined shown stamp a into (picture stamp) (shown into)), tt),
     ),
   )
   written_each (ask.AddAlbum into title) = let a : Ask = ask.AddAlbum into title in (
-    Made refl (1, omega arith, refl) (one-list stamp),
+    Made (0, omega arith, refl) (one-list stamp),
     (
-      Made refl (2, omega arith, refl) (λ n c. no-list n c),
+      Made (1, omega arith, refl) (λ n c. no-list n c),
       (Rewritten (first into []) (joined shown stamp a into (album stamp) (shown into)), tt),
     ),
   )
+  written_each (ask.AddGroup into ms) =
+      (Made (0, omega arith, refl) (one-list stamp), (Made (1, omega arith, refl) (λ n c. no-list n c), tt))
   written_each (ask.Retitle object title) =
       (Rewritten (first object []) (titled shown stamp (ask.Retitle object title) object title (shown object) (Retitles title)), tt)
   written_each (ask.Replace object content) =

@@ -214,6 +214,7 @@ pub fn acknowledged_writes_stay()
         → is_base_opening opening ≡ true
         → opening.checked ≡ true
         → IsLaterVersion opening (run_of opening events) (group number) first last was is
+        → was ≢ value.Missing
         → NoneBetween (terms_of opening) (run_of opening events)
         (λ by. SetsMembers (group number) by.permit.view.ask) (group number) first last
         → members_of is ≡ members_of was }

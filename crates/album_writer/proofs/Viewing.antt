@@ -1,16 +1,14 @@
 -- What a write changes is in its permit's view, or new (`shown-or-new`), for the law `checked_writes_name_their_bases`.
 use Rattle.std.proofs.Common.{◌≡◌, ◌⊎◌, ◌<◌, ℕ, zero, suc, List, [], ◌∷◌, Contains, map, length, inl, inr, refl, sym, subst, arith}
-use Rattle.std.specs.Prelude.{IsTrue}
 use Rattle.std.specs.List.{flat_map, slice_index_or}
 use Rattle.std.proofs.lemmas.List.Elements.{Contains-append_left}
-use Rattle.album_items.specs.ItemIds.{picture, album, list}
 use Rattle.album_items.specs.Transactions.{items_written}
 use Rattle.album_items.specs.Values.{home_of, list_of}
 use Rattle.album_items.specs.declared.values.Value.{Value}
 use Rattle.album_items.specs.declared.values.Value.TheVariants as value
 use Rattle.album_reader.specs.Snapshots.{items_read}
 use Rattle.album_views.proofs.Flaws.{objects_lists, list-shared, group-shared}
-use Rattle.album_views.specs.Asks.{is_adding, objects_of}
+use Rattle.album_views.specs.Asks.{made_by, objects_of}
 use Rattle.album_views.specs.ReadSets.{IsNamed, subjects_of}
 use Rattle.album_views.specs.ReadSets.IsNamed.{Subject, ListOf}
 use Rattle.album_views.specs.Seen.{seen}
@@ -51,7 +49,7 @@ module _ (permit : PermitState) (stamp : ℕ) where
   abbrev Known : Ask → ℕ → Type 0
   Known asked item =
       IsNamed lookup permit.view.looker asked item
-      ⊎ (IsTrue (is_adding asked) × Contains (picture stamp ∷ album stamp ∷ list stamp ∷ []) item)
+      ⊎ Contains (made_by asked stamp) item
 
   abbrev KnownOf : Ask → Write → Type 0
   KnownOf asked write = Known asked write.0
@@ -84,14 +82,17 @@ module _ (permit : PermitState) (stamp : ℕ) where
   written-known (ask.Read object) = tt
   written-known (ask.List into) = tt
   written-known (ask.GetList object) = tt
+  written-known (ask.Head object) = tt
+  written-known (ask.Children into) = tt
   written-known (ask.AddPicture into title content) = (
-    inr (refl, (0, omega arith, refl)),
-    (inr (refl, (2, omega arith, refl)), (subject (ask.AddPicture into title content) into (first into []), tt)),
+    inr (0, omega arith, refl),
+    (inr (1, omega arith, refl), (subject (ask.AddPicture into title content) into (first into []), tt)),
   )
   written-known (ask.AddAlbum into title) = (
-    inr (refl, (1, omega arith, refl)),
-    (inr (refl, (2, omega arith, refl)), (subject (ask.AddAlbum into title) into (first into []), tt)),
+    inr (0, omega arith, refl),
+    (inr (1, omega arith, refl), (subject (ask.AddAlbum into title) into (first into []), tt)),
   )
+  written-known (ask.AddGroup into members) = (inr (0, omega arith, refl), (inr (1, omega arith, refl), tt))
   written-known (ask.Retitle object title) = (subject (ask.Retitle object title) object (first object []), tt)
   written-known (ask.Replace object content) = (subject (ask.Replace object content) object (first object []), tt)
   written-known (ask.Delete object) =

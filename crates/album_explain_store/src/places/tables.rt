@@ -134,6 +134,12 @@ const ADD_ALBUM: Rows = &[
     ("title", Form::Title),
 ];
 
+const ADD_GROUP: Rows = &[
+    ("do", Form::Word),
+    ("album", Form::Item),
+    ("members", Form::Members),
+];
+
 const RETITLE: Rows = &[
     ("do", Form::Word),
     ("object", Form::Item),
@@ -231,10 +237,11 @@ pub(crate) fn rows_of(line: &Value<'_>, part: Part, value: &Value<'_>) -> Option
 fn ask_rows(ask: &Value<'_>) -> Option<Rows> {
     let word = text(field(ask, "do").ok()?).ok()?;
     match word {
-        "read" | "get_list" | "delete" => Some(OF_OBJECT),
-        "list" => Some(OF_ALBUM),
+        "read" | "get_list" | "head" | "delete" => Some(OF_OBJECT),
+        "list" | "children" => Some(OF_ALBUM),
         "add_picture" => Some(ADD_PICTURE),
         "add_album" => Some(ADD_ALBUM),
+        "add_group" => Some(ADD_GROUP),
         "retitle" => Some(RETITLE),
         "replace" => Some(REPLACE),
         "move" => Some(MOVE),

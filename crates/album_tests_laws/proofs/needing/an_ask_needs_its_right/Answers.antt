@@ -1,5 +1,5 @@
 use Rattle.album_views.specs.declared.asks.Ask.TheVariants as ask
-use Rattle.album_listing.specs.Masks.{READ_DATA, WRITE_DATA, LIST_DIRECTORY, ADD_FILE, ADD_SUBDIRECTORY, WRITE_ATTRIBUTES, READ_ACL, WRITE_OWNER}
+use Rattle.album_listing.specs.Masks.{READ_DATA, WRITE_DATA, LIST_DIRECTORY, ADD_FILE, ADD_SUBDIRECTORY, READ_ATTRIBUTES, WRITE_ATTRIBUTES, READ_ACL, WRITE_ACL, WRITE_OWNER}
 use Rattle.album_listing.specs.Reasons.{is_granted_on}
 use Rattle.album_tests_laws.proofs.NeedsMet.{granted-where, just-met}
 use Rattle.album_tests_laws.proofs.needing.an_ask_needs_its_right.Goals as goal
@@ -15,6 +15,18 @@ returns-clause-listed c basis into =
 pub returns-clause-entries : goal.returns-clause-entries
 returns-clause-entries c basis object =
     granted-where basis (ask.GetList object) (is_granted_on basis object READ_ACL) (just-met basis object READ_ACL)
+
+pub returns-clause-head : goal.returns-clause-head
+returns-clause-head c basis object =
+    granted-where basis (ask.Head object) (is_granted_on basis object READ_ATTRIBUTES) (just-met basis object READ_ATTRIBUTES)
+
+pub returns-clause-children : goal.returns-clause-children
+returns-clause-children c basis into =
+    granted-where basis (ask.Children into) (is_granted_on basis into LIST_DIRECTORY) (just-met basis into LIST_DIRECTORY)
+
+pub returns-clause-group : goal.returns-clause-group
+returns-clause-group c basis into members =
+    granted-where basis (ask.AddGroup into members) (is_granted_on basis into WRITE_ACL) (just-met basis into WRITE_ACL)
 
 pub returns-clause-picture : goal.returns-clause-picture
 returns-clause-picture c basis into title content =

@@ -54,6 +54,22 @@ pub returns-clause-asked : goal.returns-clause-asked
 unfolding lines_on_literals
 returns-clause-asked c = refl
 
+pub returns-clause-head : goal.returns-clause-head
+unfolding lines_on_literals
+returns-clause-head c = refl
+
+pub returns-clause-children : goal.returns-clause-children
+unfolding lines_on_literals
+returns-clause-children c = refl
+
+pub returns-clause-children_of_object : goal.returns-clause-children_of_object
+unfolding lines_on_literals
+returns-clause-children_of_object c = refl
+
+pub returns-clause-group_added : goal.returns-clause-group_added
+unfolding lines_on_literals
+returns-clause-group_added c = refl
+
 pub returns-clause-shared : goal.returns-clause-shared
 unfolding lines_on_literals
 returns-clause-shared c = refl

@@ -14,6 +14,22 @@ pub returns-clause-listed : goal.returns-clause-listed
 unfolding lines_on_literals
 returns-clause-listed c = refl
 
+pub returns-clause-head_of_picture : goal.returns-clause-head_of_picture
+unfolding lines_on_literals
+returns-clause-head_of_picture c = refl
+
+pub returns-clause-head_of_album : goal.returns-clause-head_of_album
+unfolding lines_on_literals
+returns-clause-head_of_album c = refl
+
+pub returns-clause-head_of_group : goal.returns-clause-head_of_group
+unfolding lines_on_literals
+returns-clause-head_of_group c = refl
+
+pub returns-clause-children : goal.returns-clause-children
+unfolding lines_on_literals
+returns-clause-children c = refl
+
 pub returns-clause-denied : goal.returns-clause-denied
 unfolding lines_on_literals
 returns-clause-denied c = refl

@@ -3,7 +3,7 @@ use Rattle.hex.specs.Hex.{encode_lower}
 use Rattle.json.specs.Token.{key, string, number}
 use Rattle.album_items.specs.ItemIds.{text_of}
 use Rattle.album_wire.proofs.AnswerTexts.{begun, picture_text}
-use Rattle.album_wire.proofs.out_json.picture_line.Goals as goal
+use Rattle.album_wire.proofs.served_json.picture_line.Goals as goal
 
 pub returns : goal.returns
 returns c =
