@@ -160,8 +160,9 @@ pub fn acknowledged_additions_stay()
 
 /// A law: what an acknowledged request sets stays, in a service that is checked. A deletion is undone by no request. An
 /// owner with a head group stays until a request sets one or deletes the object. The members of a group stay until a
-/// request sets them, where the opening gives each item a value of its kind; so do those of a group that is made. A list
-/// that was set alone, of an object as the request's view names it, stays until a request sets it or deletes its object.
+/// request sets them, where the opening gives each item a value of its kind; so do those of a group that is made. A
+/// list that was set alone, of an object as the request's view names it, stays until a request sets it or deletes its
+/// object.
 pub fn acknowledged_settings_stay()
     ensures deletion { (policy : Policy) (begun answered cut : Cut) (principal : Principal)
         (stamp object last : ℕ) (is : Value)

@@ -7,8 +7,8 @@
 //! reply back with a pass that shows the reply's history. A service opens the threads, gives each session its channel,
 //! and has what they share: a board, an audit book, and hints.
 //!
-//! Read `service` first, then `running`, `opened` and `visit`, with specs/Opened.antt. `gauge` has the figures of a running
-//! service (`--stats`).
+//! Read `service` first, then `running`, `opened` and `visit`, with specs/Opened.antt. `gauge` has the figures of a
+//! running service (`--stats`).
 #![tactic(auto)]
 
 // What a service is opened with, and the service: its threads, its sessions, its totals.

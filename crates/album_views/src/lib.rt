@@ -4,8 +4,8 @@
 //! What comes in: an ask, and then the snapshot of each read that is made for it. What goes out: the items
 //! to read first, and with each snapshot the items to read next, or a view, or why there is none.
 //!
-//! Read `asks`, `deeds` and `checks` first, then `read_set`, which gives the items that a ruling looks at, then `view` and
-//! `viewing`.
+//! Read `asks`, `deeds` and `checks` first, then `read_set`, which gives the items that a ruling looks at, then `view`
+//! and `viewing`.
 #![tactic(auto)]
 
 // What is asked.
