@@ -1,17 +1,15 @@
 -- What a round makes of the version that a message brings, for `Round::fresh` (`IsFresh-free`), `Round::take`
--- (`in_order-fresh`, `outcome-fresh`) and `Round::is_completed_by` (`end-fresh`); and `waits_same` and `waits_open`, for
+-- (`in_order-fresh`, `outcome-fresh`) and `Round::is_completed_by` (`end-fresh`), for `Round::waits` (`waits-fresh`); and `waits_open`, for
 -- `Reading::waits`.
 use Rattle.std.proofs.Common.{◌≡◌, ℕ, zero, suc, ◌+◌, ◌<◌, Bool, true, false, ◌==◌, ◌&&◌, List, [], ◌∷◌, length, take, drop, Option, Some, None, is_some, get_or, set, position, Result, Ok, Err, OnErr, refl, sym, ap, ◌∙◌, arith, add-one, if◌then◌else◌, subst}
 use Rattle.std.specs.Option.{option_map_or}
 use Rattle.std.proofs.Math.Bool.{and_assoc}
 use Rattle.album_calls.specs.declared.messages.Message.{Message}
-use Rattle.album_reader.specs.declared.round.End.{End}
-use Rattle.album_reader.specs.declared.round.End.TheVariants as last
 use Rattle.album_reader.specs.declared.round.Fresh.{Fresh}
 use Rattle.album_reader.specs.Answers.{ReadVersion, body_version, is_answer, answers_there, are_there}
-use Rattle.album_reader.specs.Ends.{answer_of, step_by, IsFresh}
-use Rattle.album_reader.specs.Rounds.{RoundState, new_answer, with_answer, end_by, end_of, outcome, taken, is_end, are_in_order, IsOpen, stepped, is_gone, StaysOpen}
-use Rattle.album_reader.specs.Rounds.Step.{Same, Gone}
+use Rattle.album_reader.specs.Ends.{answer_of, IsFresh}
+use Rattle.album_reader.specs.Rounds.{RoundState, new_answer, with_answer, end_by, end_of, outcome, taken, is_end, are_in_order, IsOpen, is_gone, StaysOpen}
+use Rattle.album_reader.specs.Rounds.Step.{Same}
 use Rattle.album_reader.proofs.Others.{new_answer-answer}
 use Rattle.album_reader.proofs.Rounds.{put_answer-set, with_answer-in_order, index-of, index-inside, lacks-absent, lacks-taken, lacks-free, stepped-open, taken-stepped}
 
@@ -74,6 +72,16 @@ end-outcome round = go (are_there round.answers)
     go true = ended round.stamps _
     go false = refl
 
+-- where it is no end, the round waits
+outcome-waits : (round : RoundState) → is_end (outcome round) ≡ false → outcome round ≡ Same round
+outcome-waits round goes = go (are_there round.answers) (sym (end-outcome round) ∙ goes)
+  where
+    go :
+        (b : Bool) → b ≡ false
+        → option_map_or (end_of round) (if b then Some (answers_there round.answers) else None) (Same round) ≡ Same round
+    go true e = absurd (cc)
+    go false e = refl
+
 -- with an answer at the index, each is there exactly where each other one is
 are_there-set :
     (answers : List (Option ReadVersion)) (index : ℕ) (answer : ReadVersion) → index < length answers
@@ -129,6 +137,17 @@ module _ (round : RoundState) (message : Message) (fresh : Fresh)
       ∙ are_there-set round.answers fresh.index (answer_of fresh.version) is.inside
       ∙ rw (add-one) refl
 
+  -- where that isn't the end, the round waits with it
+  pub waits-fresh :
+      is_end (taken round message) ≡ false
+      → taken round message ≡ Same (record {
+        asker = round.asker;
+        items = round.items;
+        stamps = round.stamps;
+        answers = set round.answers fresh.index (Some (answer_of fresh.version));
+      })
+  waits-fresh goes = sym outcome-fresh ∙ outcome-waits _ (ap is_end outcome-fresh ∙ goes)
+
 -- what holds anyway holds on an error
 pub on_err_then : {T E P : Type 0} (r : Result T E) → P → OnErr r P
 on_err_then (Ok v) p = tt
@@ -136,27 +155,8 @@ on_err_then (Err e) p = p
 
 -- ---- a message that doesn't end the round
 
--- where the step is no end, the round waits
-pub waits_same : (old new : RoundState) (message : Message) (end : Option End) → is_end (stepped old message) ≡ false
-    → step_by new end ≡ taken old message → stepped old message ≡ Same new
-waits_same old new message end goes step =
-    let same : taken old message ≡ stepped old message = taken-stepped old message (going (is_gone old message) refl) in
-    sym same ∙ sym step ∙ by end (ap is_end (step ∙ same) ∙ goes)
-  where
-    going : (b : Bool) → is_gone old message ≡ b → is_gone old message ≡ false
-    going true e =
-        let gone : stepped old message ≡ Gone old.items =
-        ap (λ (b : Bool). if b then Gone old.items else taken old message) e in
-        absurd (let ended = sym (ap is_end gone) ∙ goes in cc)
-    going false e = e
-
-    by : (end : Option End) → is_end (step_by new end) ≡ false → step_by new end ≡ Same new
-    by None e = refl
-    by (Some (last.Next next messages)) e = absurd (cc)
-    by (Some (last.Done snapshot)) e = absurd (cc)
-
--- and is not over
-pub waits_open : (old new : RoundState) (message : Message) (end : Option End) → is_end (stepped old message) ≡ false
-    → step_by new end ≡ taken old message → IsOpen old → IsOpen new
-waits_open old new message end goes step is =
-    subst StaysOpen (waits_same old new message end goes step) (stepped-open old message is)
+-- where the step by the version is no end, the round is not over
+pub waits_open : (old new : RoundState) (message : Message)
+    → is_gone old message ≡ false → taken old message ≡ Same new → IsOpen old → IsOpen new
+waits_open old new message goes step is =
+    subst StaysOpen (sym (taken-stepped old message goes) ∙ step) (stepped-open old message is)

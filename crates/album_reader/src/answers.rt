@@ -134,7 +134,7 @@ fn copies_there(
 ) -> Result<Vec<ReadVersion>, AllocError>
     ensures { IfOk result (λ there. there.items ≡ answers_there answers.now) }
 {
-    let mut there = Vec::new(alloc);
+    let mut there = Vec::with_capacity(alloc, answers.len())?;
     for answer in answers {
         if let Some(answer) = answer {
             there.push(answer.clone()?)?;

@@ -160,12 +160,10 @@ impl Reading {
         ensures memory { IsOkUnless result Refusal.OutOfMemory }
         ensures unchanged { OnErr result (self.new ≡ self.old) }
     {
-        if self.is_ended_by(message) {
+        if self.round.is_gone(message) {
             return Ok(false);
         }
-        // The round has no end by it, as the test above says.
-        let _end = self.round.take(message)?;
-        Ok(true)
+        Ok(self.round.waits(message)?)
     }
 
     /// Whether the message ends the round, and with the second round the read. It takes no memory, and copies no

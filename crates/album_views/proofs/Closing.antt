@@ -23,7 +23,7 @@ use Rattle.album_views.proofs.Turns.{read-has, names-fixed, names-named}
 
 -- ---- each name
 
-all-in : (test : ℕ → Bool) (xs : List ℕ) → list_all test xs ≡ true → (x : ℕ) → has xs x ≡ true → test x ≡ true
+pub all-in : (test : ℕ → Bool) (xs : List ℕ) → list_all test xs ≡ true → (x : ℕ) → has xs x ≡ true → test x ≡ true
 all-in test [] all x h = absurd (cc)
 all-in test (y ∷ ys) all x h =
     let parts = and_parts (test y) (list_all test ys) all in

@@ -4,8 +4,8 @@
 //! What comes in: an ask, and then the snapshot of each read that is made for it. What goes out: the items
 //! to read first, and with each snapshot the items to read next, or a view, or why there is none.
 //!
-//! Read `asks`, `deeds` and `checks` first, then `read_set`, which gives the items that a ruling looks at, then `view`
-//! and `viewing`.
+//! Read `asks`, `deeds` and `checks` first, then `read_set`, which gives the items that a ruling looks at, and
+//! `covering`, which mostly does without them, then `view` and `viewing`.
 #![tactic(auto)]
 
 // What is asked.
@@ -14,6 +14,7 @@ mod checks;
 mod deeds;
 
 // What a ruling looks at, and the reads until a snapshot has it.
+mod covering;
 mod read_set;
 mod view;
 mod viewing;

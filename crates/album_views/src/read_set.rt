@@ -68,7 +68,11 @@ fn first_names(
 }
 
 /// What is ruled on: the objects of the ask, and the home or the children that it looks at.
-fn subjects(alloc: Global, snapshot: &Snapshot, ask: &Ask) -> Result<Vec<ItemId>, AllocError>
+pub(crate) fn subjects(
+    alloc: Global,
+    snapshot: &Snapshot,
+    ask: &Ask,
+) -> Result<Vec<ItemId>, AllocError>
     ensures { IfOk result (λ subjects. subjects.items ≡ subjects_of (seen snapshot.now) ask.now) }
 {
     let mut subjects = ask.objects(alloc)?;
@@ -195,7 +199,12 @@ pub fn looker(policy: Policy, principal: &Principal) -> Result<Option<Principal>
 }
 
 /// Whether the owner's way is gone to the subject, so that no group is looked at for it.
-fn is_groupless(snapshot: &Snapshot, looker: &Option<Principal>, ask: &Ask, subject: ItemId) -> bool
+pub(crate) fn is_groupless(
+    snapshot: &Snapshot,
+    looker: &Option<Principal>,
+    ask: &Ask,
+    subject: ItemId,
+) -> bool
     ensures { result ≡ is_groupless (seen snapshot.now) looker.now ask.now subject }
 {
     match looker {
@@ -257,7 +266,7 @@ fn add_groups_in_members(names: &mut IndexSet<ItemId>, members: &[Member]) -> Re
 }
 
 /// The head of the item, if it is there and has one.
-fn head(snapshot: &Snapshot, item: ItemId) -> Option<&Head>
+pub(crate) fn head(snapshot: &Snapshot, item: ItemId) -> Option<&Head>
     ensures { option_copied result ≡ head_of (seen snapshot.now item) }
 {
     match seen(snapshot, item) {
@@ -268,7 +277,7 @@ fn head(snapshot: &Snapshot, item: ItemId) -> Option<&Head>
 
 /// The value of the item, if it was read.
 #[tactic(auto, unfolding(crate::specs::Seen::seen))]
-fn seen(snapshot: &Snapshot, item: ItemId) -> Option<&Value>
+pub(crate) fn seen(snapshot: &Snapshot, item: ItemId) -> Option<&Value>
     ensures { MatchOption result
         (seen snapshot.now item ≡ Missing)
         (λ value. value.now ≡ seen snapshot.now item) }

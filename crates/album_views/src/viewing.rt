@@ -7,9 +7,11 @@ ghost use Rattle.album_views.specs.Asks.{objects_of};
 ghost use Rattle.album_views.specs.Checks.{flaw_of};
 ghost use Rattle.album_views.specs.ReadSets.{names_of};
 ghost use Rattle.album_views.specs.Seen.{is_read};
+ghost use Rattle.album_views.specs.Views.{IsClosed};
 ghost use Rattle.album_views.specs.Steps.{again, unclosed, stepped, AreReadable, AsksReadable};
 
 use crate::asks::Ask;
+use crate::covering::covers;
 use crate::read_set::names;
 use crate::view::View;
 use album_eval::Principal;
@@ -104,6 +106,9 @@ impl Viewing {
         ensures memory { IfErr result (λ e. e.refusal ≡ Refusal.OutOfMemory) }
         ensures given { IfErr result (λ e. e.given ≡ (self, snapshot)) }
     {
+        if let Ok(true) = covers(alloc, &snapshot, &looker, &self.ask) {
+            return Ok(self.closed(looker, snapshot));
+        }
         match names(alloc, &snapshot, &looker, &self.ask) {
             Ok(names) => Ok(self.on_names(looker, snapshot, names)),
             Err(refusal) => Err(Refused {
@@ -124,6 +129,16 @@ impl Viewing {
             return ViewStep::Closed(View::of(looker, ask, snapshot));
         }
         self.unclosed(names)
+    }
+
+    /// The step by a snapshot that is closed, as the quick test has found.
+    fn closed(self, looker: Option<Principal>, snapshot: Snapshot) -> ViewStep
+        requires { IsClosed looker self.ask snapshot }
+        ensures step { result ≡ stepped looker self snapshot }
+        ensures readable { AsksReadable result }
+    {
+        let Viewing { ask, reads: _ } = self;
+        ViewStep::Closed(View::of(looker, ask, snapshot))
     }
 
     /// The step by a snapshot that lacks one of its read set.
