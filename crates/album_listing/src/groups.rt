@@ -1,12 +1,11 @@
 //! The groups that a principal is in, by the groups that a view shows.
 ghost use Rattle.std.specs.Prelude.{◌≡◌, ◌==◌, ℕ, filter, IfOk, OnOk, IsOkUnless, if◌then◌else◌};
-ghost use Rattle.std.specs.Ordering.{nat_cmp};
-ghost use Rattle.std.specs.BTreeSet as set;
 ghost use Rattle.album_eval.specs.Groups.{listed_in};
 ghost use Rattle.album_items.specs.Values.{members_of};
 ghost use Rattle.album_views.specs.Seen.{seen};
-ghost use Rattle.album_listing.specs.Basis.{AreGroups, members_seen};
+ghost use Rattle.album_listing.specs.Basis.{members_seen};
 ghost use Rattle.album_listing.specs.GroupsFound.{may_bring_in};
+ghost use Rattle.album_listing.specs.RulingContexts.{IsSetOfGroups};
 
 use album_eval::{Principal, members};
 use album_items::{ItemId, Kind};
@@ -16,14 +15,17 @@ use album_views::View;
 use std::alloc::{AllocError, Global};
 use std::collections::{BTreeMap, BTreeSet};
 
-/// The groups that the principal is in.
-pub(crate) fn groups_in(
+/// The numbers of the groups that the principal is in. They are the same for all that is ruled on one view.
+///
+/// # Errors
+///
+/// `OutOfMemory`.
+pub fn groups_in(
     alloc: Global,
     view: &View,
     principal: &Principal,
 ) -> Result<BTreeSet<u64>, Refusal>
-    ensures groups { IfOk result (λ groups.
-        AreGroups (seen view.now.rows) principal.now (set.contains nat_cmp groups)) }
+    ensures groups { IfOk result (IsSetOfGroups view.now.rows principal.now) }
     ensures memory { IsOkUnless result Refusal.OutOfMemory }
 {
     let listed = listed_in(alloc, view, principal)?;

@@ -3,11 +3,12 @@ ghost use Rattle.std.specs.Prelude.{◌≡◌, ◌==◌, ◌++◌, ◌∷◌, []
 ghost use Rattle.std.specs.List.{filter_map};
 ghost use Rattle.std.specs.Option.{option_copied, option_map_or};
 ghost use Rattle.album_views.specs.Asks.{is_list};
-ghost use Rattle.album_listing.specs.RulingContexts.{basis_of};
+ghost use Rattle.album_listing.specs.RulingContexts.{basis_of, IsSetOfGroups};
 ghost use Rattle.album_listing.specs.Listing.{title_in, title_shown, row_for, listed, IsListing};
 ghost use Rattle.album_listing.specs.Masks.{READ_ATTRIBUTES};
 ghost use Rattle.album_listing.specs.Reasons.{is_granted_on};
 
+use crate::groups::groups_in;
 use crate::reasons::Alternative;
 use crate::rows::{Row, Rows};
 use crate::ruling_contexts::RulingContext;
@@ -17,6 +18,7 @@ use album_items::{ItemId, Title, Value};
 use album_stamps::Refusal;
 use album_views::{Ask, View};
 use std::alloc::Global;
+use std::collections::BTreeSet;
 
 /// The children of the album that the ask of the view is to list, those on which the principal is granted
 /// READ_ATTRIBUTES, in the order of the album. A child is listed where its home is this album. It is judged
@@ -30,11 +32,31 @@ pub fn list(alloc: Global, view: &View, principal: &Principal) -> Result<Rows, R
     ensures rows { IfOk result (λ rows. IsListing view.now principal.now rows) }
     ensures memory { IsOkUnless result Refusal.OutOfMemory }
 {
+    let groups = groups_in(alloc, view, principal)?;
+    list_with(alloc, view, principal, &groups)
+}
+
+/// The same, with the groups that the principal is in by the view.
+///
+/// # Errors
+///
+/// `OutOfMemory`.
+pub fn list_with(
+    alloc: Global,
+    view: &View,
+    principal: &Principal,
+    groups: &BTreeSet<u64>,
+) -> Result<Rows, Refusal>
+    requires asked { IsTrue (is_list view.now.ask) }
+    requires groups { IsSetOfGroups view.now.rows principal.now groups.now }
+    ensures rows { IfOk result (λ rows. IsListing view.now principal.now rows) }
+    ensures memory { IsOkUnless result Refusal.OutOfMemory }
+{
     let Ask::List { album } = view.ask() else {
         // The ask is a List: the caller has to see to that.
         unreachable!();
     };
-    let context = RulingContext::of(alloc, view, principal, Policy::One)?;
+    let context = RulingContext::of(alloc, view, principal, Policy::One, groups);
     let rows = listed(alloc, &context, *album);
     drop(context);
     Ok(Rows::of(rows?))
@@ -76,21 +98,23 @@ fn add_row(
 fn title_shown<'a>(context: &'a RulingContext, album: ItemId, child: ItemId) -> Option<&'a Title>
     ensures { option_copied result ≡ title_shown (basis_of context.now) album child }
 {
-    if !may_see(context, child) {
+    let value = context.lookup().value(child);
+    if !may_see(context, child, value) {
         return None;
     }
-    title_in(album.number(), context.lookup().value(child))
+    title_in(album.number(), value)
 }
 
-/// Whether READ_ATTRIBUTES is granted on the child.
-fn may_see(context: &RulingContext, child: ItemId) -> bool
+/// Whether READ_ATTRIBUTES is granted on the child, which has this value.
+fn may_see(context: &RulingContext, child: ItemId, value: &Value) -> bool
+    requires { value.now ≡ (basis_of context.now).seen child }
     ensures { result ≡ is_granted_on (basis_of context.now) child READ_ATTRIBUTES }
 {
     let alternative = Alternative {
         object: child,
         mask: Mask::READ_ATTRIBUTES,
     };
-    match context.reason(alternative) {
+    match context.reason_by(alternative, value) {
         Some(reason) => reason.is_grant(),
         None => false,
     }

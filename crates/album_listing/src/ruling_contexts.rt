@@ -1,16 +1,14 @@
 //! What a ruling looks at: what the view shows, the principal, and the principal's groups.
-ghost use Rattle.std.specs.Prelude.{◌≡◌, IfOk, IsOkUnless};
+ghost use Rattle.std.specs.Prelude.{◌≡◌};
 ghost use Rattle.album_eval.specs.Matching.{case_of};
 ghost use Rattle.album_listing.specs.Basis.{IsBasis};
-ghost use Rattle.album_listing.specs.RulingContexts.{basis_of};
+ghost use Rattle.album_listing.specs.RulingContexts.{basis_of, IsSetOfGroups};
 ghost use Rattle.album_listing.specs.Reasons.{case_on, reason_of};
 
-use crate::groups::groups_in;
 use crate::reasons::{Alternative, Reason};
 use crate::view_lookups::ViewLookup;
 use album_eval::{Facts, Policy, Principal, evaluate};
-use album_items::Head;
-use album_stamps::Refusal;
+use album_items::{Head, Value};
 use album_views::View;
 use std::alloc::Global;
 use std::collections::BTreeSet;
@@ -20,32 +18,28 @@ use std::collections::BTreeSet;
 pub struct RulingContext<'a> {
     policy: Policy,
     principal: &'a Principal,
-    groups: BTreeSet<u64>,
+    groups: &'a BTreeSet<u64>,
     lookup: ViewLookup<'a>,
 }
 
 impl<'a> RulingContext<'a> {
-    /// Hears a view. The groups are looked up here, once for all that is ruled on it.
-    ///
-    /// # Errors
-    ///
-    /// `OutOfMemory`.
+    /// Hears a view, with the groups that the principal is in by it.
     pub fn of(
         alloc: Global,
         view: &'a View,
         principal: &'a Principal,
         policy: Policy,
-    ) -> Result<RulingContext<'a>, Refusal>
-        ensures basis { IfOk result (λ context. IsBasis policy principal.now view.now.rows (basis_of context)) }
-        ensures memory { IsOkUnless result Refusal.OutOfMemory }
+        groups: &'a BTreeSet<u64>,
+    ) -> RulingContext<'a>
+        requires { IsSetOfGroups view.now.rows principal.now groups.now }
+        ensures { IsBasis policy principal.now view.now.rows (basis_of result) }
     {
-        let groups = groups_in(alloc, view, principal)?;
-        Ok(RulingContext {
+        RulingContext {
             policy,
             principal,
             groups,
             lookup: ViewLookup::of(alloc, view),
-        })
+        }
     }
 
     /// What the view shows.
@@ -59,7 +53,15 @@ impl<'a> RulingContext<'a> {
     pub fn reason(&self, alternative: Alternative) -> Option<Reason>
         ensures { result ≡ reason_of (basis_of self.now) alternative }
     {
-        match self.lookup.value(alternative.object).head() {
+        self.reason_by(alternative, self.lookup.value(alternative.object))
+    }
+
+    /// The same, where the value that is seen of the object was looked up before.
+    pub(crate) fn reason_by(&self, alternative: Alternative, value: &Value) -> Option<Reason>
+        requires { value.now ≡ (basis_of self.now).seen alternative.object }
+        ensures { result ≡ reason_of (basis_of self.now) alternative }
+    {
+        match value.head() {
             Some(head) => Some(Reason {
                 object: alternative.object,
                 mask: alternative.mask,
@@ -82,7 +84,7 @@ impl<'a> RulingContext<'a> {
             principal: self.principal,
             owner: &head.owner,
             head_group: head.group,
-            groups: &self.groups,
+            groups: self.groups,
         }
     }
 }

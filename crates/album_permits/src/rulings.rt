@@ -2,6 +2,7 @@
 ghost use Rattle.std.specs.Prelude.{◌≡◌, None, IfOk, IfErr, IsOkUnless};
 ghost use Rattle.album_views.specs.Checks.{refusal_of};
 ghost use Rattle.album_views.specs.ReadSets.{looker_of};
+ghost use Rattle.album_listing.specs.RulingContexts.{IsSetOfGroups};
 ghost use Rattle.album_permits.specs.Rulings.{IsFound, IsRuled};
 
 use crate::findings::{Denial, Finding, Found, find_of};
@@ -9,10 +10,11 @@ use crate::notes::Note;
 use crate::permits::Permit;
 use album_eval::{Policy, Principal};
 use album_items::ItemId;
-use album_listing::RulingContext;
+use album_listing::{RulingContext, groups_in};
 use album_stamps::{Refusal, Refused};
 use album_views::View;
 use std::alloc::Global;
+use std::collections::BTreeSet;
 
 /// What is ruled on the ask of a view.
 #[derive(Debug)]
@@ -51,8 +53,32 @@ pub fn rule_on(
     ensures memory { IfErr result (λ e. e.refusal ≡ Refusal.OutOfMemory) }
     ensures given { IfErr result (λ e. e.given ≡ view) }
 {
-    match find_on(alloc, &view, principal, policy) {
-        Ok(found) => rule_by(view, principal, policy, found),
+    match groups_in(alloc, &view, principal) {
+        Ok(groups) => rule_with(alloc, view, principal, policy, groups),
+        Err(refusal) => Err(Refused {
+            refusal,
+            given: view,
+        }),
+    }
+}
+
+/// The ruling with the groups that the principal is in.
+fn rule_with(
+    alloc: Global,
+    view: View,
+    principal: &Principal,
+    policy: Policy,
+    groups: BTreeSet<u64>,
+) -> Result<Ruled, Refused<View>>
+    requires taken { refusal_of view.ask principal.now ≡ None }
+    requires looks { view.looker ≡ looker_of policy principal.now }
+    requires groups { IsSetOfGroups view.rows principal.now groups }
+    ensures ruled { IfOk result (IsRuled policy principal.now view) }
+    ensures memory { IfErr result (λ e. e.refusal ≡ Refusal.OutOfMemory) }
+    ensures given { IfErr result (λ e. e.given ≡ view) }
+{
+    match find_on(alloc, &view, principal, policy, &groups) {
+        Ok(found) => rule_by(view, principal, policy, groups, found),
         Err(refusal) => Err(Refused {
             refusal,
             given: view,
@@ -66,11 +92,13 @@ fn find_on(
     view: &View,
     principal: &Principal,
     policy: Policy,
+    groups: &BTreeSet<u64>,
 ) -> Result<Found, Refusal>
+    requires { IsSetOfGroups view.now.rows principal.now groups.now }
     ensures found { IfOk result (IsFound policy principal.now view.now) }
     ensures memory { IsOkUnless result Refusal.OutOfMemory }
 {
-    let context = RulingContext::of(alloc, view, principal, policy)?;
+    let context = RulingContext::of(alloc, view, principal, policy, groups);
     let found = find_of(alloc, &context, view.ask());
     drop(context);
     found
@@ -81,10 +109,12 @@ fn rule_by(
     view: View,
     principal: &Principal,
     policy: Policy,
+    groups: BTreeSet<u64>,
     found: Found,
 ) -> Result<Ruled, Refused<View>>
     requires taken { refusal_of view.ask principal.now ≡ None }
     requires looks { view.looker ≡ looker_of policy principal.now }
+    requires groups { IsSetOfGroups view.rows principal.now groups }
     requires found { IsFound policy principal.now view found }
     ensures ruled { IfOk result (IsRuled policy principal.now view) }
     ensures memory { IfErr result (λ e. e.refusal ≡ Refusal.OutOfMemory) }
@@ -94,7 +124,7 @@ fn rule_by(
     match finding {
         Finding::Granted => match principal.copy() {
             Ok(principal) => Ok(Ruled {
-                ruling: Ruling::Granted(Permit::of(view, principal, policy)),
+                ruling: Ruling::Granted(Permit::of(view, principal, policy, groups)),
                 notes,
             }),
             Err(refusal) => Err(Refused {

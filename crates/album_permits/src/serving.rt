@@ -10,7 +10,7 @@ ghost use Rattle.album_permits.specs.Serving.{read_of, IsServed, IsServedFor};
 use crate::attributes::{Attributes, attributes_of};
 use crate::permits::Permit;
 use album_items::{Content, ItemId, Items, Members, Title, Value};
-use album_listing::{Rows, ViewLookup, list};
+use album_listing::{Rows, ViewLookup, list_with};
 use album_lists::AccessList;
 use album_stamps::{Refusal, Refused, Stamp};
 use album_views::Ask;
@@ -123,7 +123,7 @@ fn rows_served(alloc: Global, permit: &Permit, album: ItemId) -> Result<Served, 
     let lookup = ViewLookup::of(alloc, permit.view());
     let stamp = lookup.stamp(album);
     drop(lookup);
-    let rows = list(alloc, permit.view(), permit.principal())?;
+    let rows = list_with(alloc, permit.view(), permit.principal(), permit.groups())?;
     Ok(Served::Listed { album, stamp, rows })
 }
 

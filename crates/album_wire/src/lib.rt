@@ -8,11 +8,11 @@
 //! `event_line` goes the same way, by `event_shape`; `talk_line`, what a connection says, by `talk_shape`. What both
 //! may ask is in `ask_shape` and `asks`. `laws` says that what is read is exactly what the bytes spell. What is written
 //! is in `out_json`, with what is served in `served_json`, and in `talk_json`; these make a JSON value first, by
-//! `value_json` and `message_json`. The most frequent answers are made without one (`object_text`). For those who run a
-//! service, `record_json` has the lines of an audit file, and `figures_json` those of its figures. For a log,
-//! `mark_line` has the line of what a partition has prepared, and `opening_text` writes the lines of an opening. That
-//! both are read back is a law of the values that `spellable` tests. How lines are cut out of a text, and how the parts
-//! of one are read, is in `album_lines`, whose public names are passed on here.
+//! `value_json` and `message_json`. The most frequent answers, and the longest, are made without one (`object_text`).
+//! For those who run a service, `record_json` has the lines of an audit file, and `figures_json` those of its figures.
+//! For a log, `mark_line` has the line of what a partition has prepared, and `opening_text` writes the lines of an
+//! opening. That both are read back is a law of the values that `spellable` tests. How lines are cut out of a text, and
+//! how the parts of one are read, is in `album_lines`, whose public names are passed on here.
 #![tactic(auto)]
 
 // An opening: its items, and its lines.

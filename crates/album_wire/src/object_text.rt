@@ -1,5 +1,5 @@
-//! The line of a JSON object, written member by member: for those lines that a service writes most. No JSON value is
-//! made of them.
+//! The line of a JSON object, written member by member: for those lines that a service writes most, and those that have
+//! the most parts. No JSON value is made of them.
 ghost use Rattle.std.specs.Prelude.{◌≡◌, ◌++◌, ◌∷◌, [], codes, decimal, IfOk, OnOk};
 ghost use Rattle.json.specs.Print.{print};
 ghost use Rattle.json.specs.Token.{begin_object, end_object, key, string, number};
@@ -11,6 +11,16 @@ use std::alloc::{AllocError, Global};
 /// How many bytes a line has room for at first.
 const ROOM: usize = 256;
 
+/// The beginning of a line, before its first member.
+pub(crate) fn begin_line(alloc: Global) -> Result<Writer, AllocError>
+    ensures before { IfOk result (λ out. out.before ≡ []) }
+    ensures tokens { IfOk result (λ out. out.tokens ≡ begin_object ∷ []) }
+{
+    let mut out = Writer::new(Vec::with_capacity(alloc, ROOM)?);
+    out.begin_object()?;
+    Ok(out)
+}
+
 /// The beginning of an answer to the client: the word that says which, and the client.
 pub(crate) fn begin_answer(
     alloc: Global,
@@ -21,8 +31,7 @@ pub(crate) fn begin_answer(
     ensures tokens { IfOk result (λ out. out.tokens ≡ begin_object
         ∷ key (codes "answer") ∷ string word.now ∷ key (codes "client") ∷ number (decimal client) ∷ []) }
 {
-    let mut out = Writer::new(Vec::with_capacity(alloc, ROOM)?);
-    out.begin_object()?;
+    let mut out = begin_line(alloc)?;
     put_text(&mut out, "answer", word)?;
     put_number(&mut out, "client", u64::from(client.number()))?;
     Ok(out)

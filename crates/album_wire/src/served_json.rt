@@ -1,21 +1,23 @@
 //! The lines of what is served: {answer, client, object, stamp}, and beside these what was asked for.
-ghost use Rattle.std.specs.Prelude.{◌≡◌, IfOk};
+ghost use Rattle.std.specs.Prelude.{◌≡◌, ◌++◌, ◌∷◌, codes, IfOk, OnOk};
+ghost use Rattle.json.specs.Token.{key};
+ghost use Rattle.json.specs.Tree.{json_tokens};
 ghost use Rattle.serde_json.specs.View.{view, members_view};
-ghost use Rattle.album_wire.specs.ValueJson.{members_named};
+ghost use Rattle.serde_json.specs.Written.{outline};
+ghost use Rattle.album_wire.specs.ValueJson.{members_named, item_json, item_list_json};
 ghost use Rattle.album_wire.specs.ServedJson.{answer_fields, answer_about, row_json, rows_json, picture_served, group_served, entries_served, listed_json, head_json, children_json, served_json};
 ghost use Rattle.album_wire.specs.ShownStamps.{stamp_shown, served_shown};
 ghost use Rattle.album_lines.specs.Output.{line_text};
 
-use crate::object_text::{begin_answer, end_line, put_number, put_text};
-use crate::value_json::{
-    entries_json, item_json, item_list_json, item_text, members_json, with_head,
-};
+use crate::object_text::{begin_answer, begin_line, end_line, put_number, put_text};
+use crate::value_json::{entries_json, item_json, item_text, members_json, with_head};
 use album_items::{Content, FirstStamps, ItemId, Title};
-use album_lines::{array_of, json_line, object_of, with_item, with_member};
+use album_lines::{json_line, object_of, with_member};
 use album_listing::Row;
 use album_lists::{Ace, Member};
 use album_permits::{Attributes, Served};
 use album_stamps::{ClientNo, Stamp};
+use json::Writer;
 use serde_json::{Map, Value};
 use std::alloc::{AllocError, Global};
 
@@ -50,8 +52,7 @@ pub(crate) fn served_line(
             json_line(alloc, served)
         }
         Served::Listed { album, rows, .. } => {
-            let served = listed_json(alloc, client, *album, stamp, rows.as_slice());
-            json_line(alloc, served)
+            listed_line(alloc, client, *album, stamp, rows.as_slice())
         }
         Served::Head {
             object,
@@ -62,10 +63,7 @@ pub(crate) fn served_line(
             album,
             children,
             ..
-        } => {
-            let served = children_json(alloc, client, *album, stamp, children.as_slice());
-            json_line(alloc, served)
-        }
+        } => children_line(alloc, client, *album, stamp, children.as_slice()),
     }
 }
 
@@ -83,7 +81,8 @@ fn stamp_shown(stamps: &FirstStamps, served: &Served) -> Stamp
     }
 }
 
-/// Most answers are pictures and writes that ended: these are written straight.
+/// Most answers are pictures and writes that ended, and those about albums have the most parts. These are written
+/// straight.
 fn picture_line(
     alloc: Global,
     client: ClientNo,
@@ -132,35 +131,48 @@ fn entries_served(
     object_of(with_member(alloc, fields, "entries", entries_json(alloc, entries)))
 }
 
-fn listed_json(
+fn listed_line(
     alloc: Global,
     client: ClientNo,
     album: ItemId,
     stamp: Stamp,
     rows: &[Row],
-) -> Result<Value, AllocError>
-    ensures { IfOk result (λ v. view v ≡ listed_json client album stamp rows.now) }
+) -> Result<Vec<u8>, AllocError>
+    ensures { IfOk result
+        (λ bytes. bytes.items ≡ line_text (listed_json client album stamp rows.now)) }
 {
-    let fields = answer_about(alloc, "listed", client, album, stamp);
-    object_of(with_member(alloc, fields, "rows", rows_json(alloc, rows)))
+    let object = item_text(alloc, album)?;
+    let mut out = begin_answer(alloc, "listed", client)?;
+    put_text(&mut out, "object", object.as_str())?;
+    put_rows(alloc, &mut out, rows)?;
+    put_number(&mut out, "stamp", stamp.value())?;
+    end_line(out)
 }
 
-fn rows_json(alloc: Global, rows: &[Row]) -> Result<Value, AllocError>
-    ensures { IfOk result (λ v. view v ≡ rows_json rows.now) }
+/// Adds the rows, as a member.
+fn put_rows(alloc: Global, out: &mut Writer, rows: &[Row]) -> Result<(), AllocError>
+    ensures before { OnOk result (out.new.before ≡ out.old.before) }
+    ensures tokens { OnOk result (out.new.tokens
+        ≡ out.old.tokens ++ key (codes "rows") ∷ json_tokens (outline (rows_json rows.now))) }
 {
-    let mut values = Vec::with_capacity(alloc, rows.len());
+    out.key("rows")?;
+    out.begin_array()?;
     for row in rows {
-        values = with_item(values, row_json(alloc, row));
+        put_row(alloc, out, row)?;
     }
-    array_of(values)
+    out.end_array()
 }
 
 /// [item, title]
-fn row_json(alloc: Global, row: &Row) -> Result<Value, AllocError>
-    ensures { IfOk result (λ v. view v ≡ row_json row.now) }
+fn put_row(alloc: Global, out: &mut Writer, row: &Row) -> Result<(), AllocError>
+    ensures before { OnOk result (out.new.before ≡ out.old.before) }
+    ensures tokens { OnOk result (out.new.tokens
+        ≡ out.old.tokens ++ json_tokens (outline (row_json row.now))) }
 {
-    let pair = with_item(Ok(Vec::new(alloc)), item_json(alloc, row.item));
-    array_of(with_item(pair, Value::try_from_str(alloc, row.title.as_str())))
+    out.begin_array()?;
+    put_item(alloc, out, row.item)?;
+    out.string(row.title.as_str())?;
+    out.end_array()
 }
 
 /// What the object is by its attributes.
@@ -201,17 +213,46 @@ fn head_json(
     }
 }
 
-fn children_json(
+fn children_line(
     alloc: Global,
     client: ClientNo,
     album: ItemId,
     stamp: Stamp,
     children: &[ItemId],
-) -> Result<Value, AllocError>
-    ensures { IfOk result (λ v. view v ≡ children_json client album stamp children.now) }
+) -> Result<Vec<u8>, AllocError>
+    ensures { IfOk result
+        (λ bytes. bytes.items ≡ line_text (children_json client album stamp children.now)) }
 {
-    let fields = answer_about(alloc, "served", client, album, stamp);
-    object_of(with_member(alloc, fields, "children", item_list_json(alloc, children)))
+    let object = item_text(alloc, album)?;
+    let mut out = begin_line(alloc)?;
+    put_text(&mut out, "answer", "served")?;
+    put_children(alloc, &mut out, children)?;
+    put_number(&mut out, "client", u64::from(client.number()))?;
+    put_text(&mut out, "object", object.as_str())?;
+    put_number(&mut out, "stamp", stamp.value())?;
+    end_line(out)
+}
+
+/// Adds the children, as a member.
+fn put_children(alloc: Global, out: &mut Writer, children: &[ItemId]) -> Result<(), AllocError>
+    ensures before { OnOk result (out.new.before ≡ out.old.before) }
+    ensures tokens { OnOk result (out.new.tokens
+        ≡ out.old.tokens ++ key (codes "children") ∷ json_tokens (outline (item_list_json children.now))) }
+{
+    out.key("children")?;
+    out.begin_array()?;
+    for child in children {
+        put_item(alloc, out, *child)?;
+    }
+    out.end_array()
+}
+
+fn put_item(alloc: Global, out: &mut Writer, item: ItemId) -> Result<(), AllocError>
+    ensures before { OnOk result (out.new.before ≡ out.old.before) }
+    ensures tokens { OnOk result (out.new.tokens ≡ out.old.tokens ++ json_tokens (outline (item_json item))) }
+{
+    let text = item_text(alloc, item)?;
+    out.string(text.as_str())
 }
 
 /// What an answer begins with, and the object and the stamp that it is of.

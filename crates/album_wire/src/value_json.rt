@@ -8,7 +8,7 @@ ghost use Rattle.album_lines.specs.Spelling.{type_word};
 ghost use Rattle.album_wire.specs.ValueJson.{members_named, owner_text, group_text, who_text, member_text, item_json, item_list_json, content_json, entry_json, entries_json, member_json, members_json, head_fields, with_head, picture_json, album_json, list_json, group_json, value_json};
 
 use album_access::AceType;
-use album_items::{Album, Content, Group, Head, ItemId, Picture};
+use album_items::{Album, Content, Group, Head, ItemId, Kind, Picture};
 use album_lines::{array_of, object_of, with_item, with_member};
 use album_lists::{AccessList, Ace, Member, Name, Who};
 use bitflags::Flags;
@@ -109,14 +109,16 @@ pub(crate) fn item_json(alloc: Global, item: ItemId) -> Result<Value, AllocError
     Ok(Value::String(text))
 }
 
-/// The text of an item.
+/// The text of an item, as `ItemId::text` gives it. To format the word with the rest takes more.
 pub(crate) fn item_text(alloc: Global, item: ItemId) -> Result<String, AllocError>
     ensures { IfOk result (λ text. string_bytes text ≡ text_of item) }
 {
-    match item.text(alloc) {
-        Ok(text) => Ok(text),
-        // Only memory refuses it.
-        Err(_) => Err(AllocError),
+    let number = item.number();
+    match item.kind() {
+        Kind::Picture => format!(in alloc; "picture/{number}"),
+        Kind::Album => format!(in alloc; "album/{number}"),
+        Kind::List => format!(in alloc; "list/{number}"),
+        Kind::Group => format!(in alloc; "group/{number}"),
     }
 }
 

@@ -1,4 +1,4 @@
-use Rattle.album_wire.proofs.Floats.{no_float_if_ok, no_float_in_group, no_float_in_entries, no_float_in_rows, no_float_in_children}
+use Rattle.album_wire.proofs.Floats.{no_float_if_ok, no_float_in_group, no_float_in_entries}
 use Rattle.album_wire.proofs.served_json.served_line.Goals as goal
 
 pub json_line-requires : goal.json_line-requires
@@ -12,15 +12,3 @@ json_line-requires-in-Entries c =
     no_float_if_ok c.entries_served-served.result _
     (no_float_in_entries c.args.client c.in-Entries.object c.stamp_shown-stamp.result c.entries.result.now)
     c.entries_served-served.ensures
-
-pub json_line-requires-in-Listed : goal.json_line-requires-in-Listed
-json_line-requires-in-Listed c =
-    no_float_if_ok c.listed_json-served.result _
-    (no_float_in_rows c.args.client c.in-Listed.album c.stamp_shown-stamp.result c.as_slice-in-Listed.result.now)
-    c.listed_json-served.ensures
-
-pub json_line-requires-in-Children : goal.json_line-requires-in-Children
-json_line-requires-in-Children c =
-    no_float_if_ok c.children_json-served.result _
-    (no_float_in_children c.args.client c.in-Children.album c.stamp_shown-stamp.result c.as_slice-in-Children.result.now)
-    c.children_json-served.ensures
