@@ -1,3 +1,4 @@
 pub mod ChannelLemmas
+pub mod CountLemmas
 pub mod RepeatLemmas
 pub mod SightingLemmas

@@ -1,4 +1,5 @@
 pub mod Channels
+pub mod Rounds
 pub mod Reads
 pub mod Sightings
 pub mod Sending

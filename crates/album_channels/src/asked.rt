@@ -1,12 +1,17 @@
-//! What was asked in one round. A session finds by it whether a reply counts. The reply has to carry back one of the
-//! round's messages, and its partition must have had by then all marks with which the round began.
-ghost use Rattle.std.specs.Prelude.{◌≡◌, ◌≤◌, ◌<◌, IsTrue, IfSome, Contains, length};
+//! What was asked in one round, and the replies that the session has had from keepers in its own thread. By what was
+//! asked it finds whether a reply that comes by mail counts. Such a one has to carry back one of the round's messages,
+//! and its partition must have had by then all marks with which the round began.
+ghost use Rattle.std.specs.Prelude.{◌≡◌, ◌≤◌, ◌<◌, All, IsTrue, IfSome, length};
 ghost use Rattle.album_passes.specs.Cuts.{IsSound};
 ghost use Rattle.album_keepers.specs.Replies.{IsLate};
+ghost use Rattle.album_keepers.specs.Rounds.{Counts, IsAt};
 
 use album_calls::{Body, Message, Node, Request, same_items, same_values};
+use album_keepers::{DeskNames, RoundReply};
 use album_passes::Pass;
 use album_stamps::{MAX_PARTS, Refusal, Stamp};
+use std::collections::VecDeque;
+use std::marker::Model;
 
 /// Why there is no reply to take.
 #[derive(Drop)]
@@ -19,43 +24,91 @@ pub enum NoReply {
     Overtaken,
 }
 
-/// The messages of a round, and a pass with the cut with which it began.
-#[derive(Drop)]
-pub struct Asked {
-    pub sent: Vec<Message>,
-    pub begun: Pass,
+/// The messages of a round, a pass with the cut with which it began, and the replies that were given here and are not
+/// yet taken. Contracts see the messages and the pass.
+pub struct Asked<J: DeskNames> {
+    pub(crate) sent: Vec<Message>,
+    pub(crate) begun: Pass,
     /// Whether the session knows all replies by itself, so that nothing was sent.
-    pub known: bool,
+    pub(crate) known: bool,
+    replies: VecDeque<RoundReply<J>>,
 }
 
-impl Asked {
+impl<J: DeskNames> Model for Asked<J> {
+    ghost use Rattle.std.specs.Prelude.{All};
+    ghost use Rattle.album_keepers.specs.Rounds.{Counts};
+    ghost use Rattle.album_channels.specs.Rounds.{AskedState};
+
+    ghost Value = { AskedState };
+
+    ghost view = { λ a. record { sent = a.sent.items; begun = a.begun } };
+
+    ghost invariant = { λ a. All (Counts J.terms.limit a.begun.cut a.sent.items) a.replies.items };
+}
+
+// By hand, so that what lets it go is proved here, and not again in each crate above.
+impl<J: DeskNames> Drop for Asked<J> {
+    fn drop(self) {
+        let Asked {
+            sent,
+            begun,
+            known: _,
+            replies,
+        } = self;
+        drop(sent);
+        drop(begun);
+        drop(replies);
+    }
+}
+
+impl<J: DeskNames> Asked<J> {
+    /// These messages, this beginning, and the replies that are there.
+    pub(crate) fn new(
+        sent: Vec<Message>,
+        begun: Pass,
+        known: bool,
+        replies: VecDeque<RoundReply<J>>,
+    ) -> Asked<J>
+        requires { All (Counts J.terms.limit begun.cut sent.items) replies.items }
+        ensures { result ≡ record { sent = sent.items; begun = begun } }
+    {
+        Asked {
+            sent,
+            begun,
+            known,
+            replies,
+        }
+    }
+
+    /// The messages.
+    pub fn sent(&self) -> &[Message]
+        ensures { result.now ≡ self.now.sent }
+    {
+        &self.sent
+    }
+
     /// The tag of the round: that of each of its messages.
     pub(crate) fn tag(&self) -> u64 {
         self.sent.first().map_or(0, |message| message.tag())
     }
 
+    /// Takes the next of the replies that are there.
+    pub(crate) fn next_reply(&mut self) -> Option<RoundReply<J>>
+        ensures count { IfSome result (Counts J.terms.limit self.old.begun.cut self.old.sent) }
+        ensures same { self.new ≡ self.old }
+    {
+        self.replies.pop_front()
+    }
+
     /// The index of the request among the messages. It is looked for from `first` on, and then before `first`: replies
     /// come mostly in the order of the messages, so each is found next to the one before it.
     pub(crate) fn find(&self, request: &Message, first: usize) -> Option<usize>
-        ensures { IfSome result (λ _. Contains self.now.sent.items request.now) }
+        ensures { IfSome result (λ index. IsAt self.now.sent index request.now) }
     {
-        match self.find_among(request, first, self.sent.len()) {
+        match find_among(&self.sent, request, first, self.sent.len()) {
             Some(index) => Some(index),
-            None => self.find_among(request, 0, first.min(self.sent.len())),
+            None => find_among(&self.sent, request, 0, first.min(self.sent.len())),
         }
-    }
-
-    /// The index of the request from `first` on and before `end`.
-    fn find_among(&self, request: &Message, first: usize, end: usize) -> Option<usize>
-        requires { end ≤ length self.now.sent.items }
-        ensures { IfSome result (λ _. Contains self.now.sent.items request.now) }
-    {
-        for index in first..end {
-            if is_same(&self.sent[index], request) {
-                return Some(index);
-            }
-        }
-        None
     }
 
     /// Whether the round's beginning is before the reply: the reply's partition had by then, as the pass shows it, all
@@ -69,6 +122,19 @@ impl Asked {
             Node::Client(_) => false,
         }
     }
+}
+
+/// The index of the request among the messages, from `first` on and before `end`.
+fn find_among(sent: &[Message], request: &Message, first: usize, end: usize) -> Option<usize>
+    requires { end ≤ length sent.now }
+    ensures { IfSome result (λ index. IsAt sent.now index request.now) }
+{
+    for index in first..end {
+        if is_same(&sent[index], request) {
+            return Some(index);
+        }
+    }
+    None
 }
 
 /// Whether these are one message, which requests something.

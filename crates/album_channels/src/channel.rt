@@ -6,14 +6,17 @@ ghost use Rattle.album_passes.specs.Cuts.{IsSound, Extends, announced_for};
 ghost use Rattle.std.specs.Arc.{arc_value};
 ghost use Rattle.album_stamps.specs.declared.limits.TheConstants.{MAX_PARTS};
 ghost use Rattle.album_keepers.specs.Controls.{Answers};
+ghost use Rattle.album_keepers.specs.Envelopes.{Shows};
+ghost use Rattle.album_keepers.specs.Rounds.{Counts};
 ghost use Rattle.album_channels.specs.Channels.{IsChannel, IsLater, IsClosedOrOutOfMemory};
 ghost use Rattle.album_channels.specs.Sightings.{IfSighted};
 
 use crate::sightings::{Sighting, clear, put};
 use album_board::{Board, Listened, Published, listen, publish};
+use album_calls::Message;
 use album_keepers::{
     Breakage, Control, ControlAnswer, ControlReply, ControlRequest, DeskNames, Inbox,
-    PartitionMail, ReplyEnvelope, RequestEnvelope, SessionMail, SharedKeeper,
+    PartitionMail, ReplyEnvelope, RoundReply, SessionMail, SharedKeeper,
 };
 use album_passes::{Desk, NamesWrites, Pass, meet};
 use album_stamps::{ClientNo, Refusal};
@@ -43,7 +46,7 @@ pub struct PartitionChannel<J: DeskNames> {
     /// The mailboxes of the partitions, in order.
     to: Vec<Sender<PartitionMail<J>>>,
     from: Inbox<SessionMail<J>>,
-    /// What was heard and not yet taken.
+    /// What came by mail and is not yet taken.
     heard: VecDeque<ReplyEnvelope<J>>,
     /// The index, among the messages of a round, of the one that was replied to last.
     pub(crate) found: usize,
@@ -272,26 +275,33 @@ impl<J: DeskNames> PartitionChannel<J> {
         }
     }
 
-    /// Has the partition take the envelopes: in this thread, where the session may, and else by its mailbox.
-    pub(crate) fn give<R: Wait>(
+    /// Has the partition's keeper take those of the messages that go to it in this thread, where the session may, and
+    /// puts the replies behind these. Gives whether it did.
+    ///
+    /// # Errors
+    ///
+    /// `OutOfMemory`.
+    pub(crate) fn answer_here<R: Wait>(
         &mut self,
         rt: &R,
         part: u16,
-        envelopes: Vec<RequestEnvelope<J>>,
-    ) -> Result<(), Refusal>
-        ensures refused { IfErr result IsClosedOrOutOfMemory }
+        messages: &[Message],
+        replies: &mut VecDeque<RoundReply<J>>,
+    ) -> Result<bool, Refusal>
+        requires shown { All (Shows self.old.cut) messages.now }
+        ensures count { All (Counts J.terms.limit self.old.cut messages.now) replies.old.items
+            → All (Counts J.terms.limit self.old.cut messages.now) replies.new.items }
+        ensures memory { IsOkUnless result Refusal.OutOfMemory }
         ensures same { self.new ≡ self.old }
     {
-        let left = match self.keepers.get(usize::from(part)) {
-            None => envelopes,
-            Some(keeper) => {
-                keeper.receive_all(rt, self.alloc, &self.desk, envelopes, &mut self.heard)?
+        let pass = self.split();
+        match self.keepers.get(usize::from(part)) {
+            None => {
+                drop(pass);
+                Ok(false)
             }
-        };
-        if left.is_empty() {
-            return Ok(());
+            Some(keeper) => keeper.answer_all(rt, &self.desk, messages, pass, replies),
         }
-        self.send(rt, part, PartitionMail::Envelopes(left))
     }
 
     /// What comes next. `Closed` where all who could send are gone, or the service is broken.

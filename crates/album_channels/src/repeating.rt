@@ -36,11 +36,11 @@ impl<J: DeskNames> PartitionChannel<J> {
     #[tactic(auto, using(crate::proofs::ChannelLemmas::later_same))]
     pub(crate) fn hear_known(
         &mut self,
-        asked: &Asked,
+        asked: &Asked<J>,
         reads: bool,
     ) -> Result<Option<Message>, NoReply>
         ensures replied { IfOk result (λ reply. IfSome reply
-            (IsReplied J.terms.limit asked.now.begun.cut self.new.cut asked.now.sent.items)) }
+            (IsReplied J.terms.limit asked.now.begun.cut self.new.cut asked.now.sent)) }
         ensures sound { IfOk result (λ reply. IfSome reply (λ _. IsSound self.new.cut)) }
         ensures same { self.new ≡ self.old }
         ensures refused { IfErr result (IsNoReply reads) }
@@ -60,9 +60,9 @@ impl<J: DeskNames> PartitionChannel<J> {
 
     /// The reply to the message of this index, if it is known.
     #[tactic(auto, using(crate::proofs::SightingLemmas::repeated_replied))]
-    fn known_reply(&self, asked: &Asked, index: usize) -> Result<Option<Message>, AllocError>
+    fn known_reply(&self, asked: &Asked<J>, index: usize) -> Result<Option<Message>, AllocError>
         ensures { IfOk result (λ reply. IfSome reply
-            (IsReplied J.terms.limit asked.now.begun.cut self.now.cut asked.now.sent.items)) }
+            (IsReplied J.terms.limit asked.now.begun.cut self.now.cut asked.now.sent)) }
     {
         if index >= asked.sent.len() || index >= self.sightings.len() {
             return Ok(None);
@@ -79,7 +79,7 @@ impl<J: DeskNames> PartitionChannel<J> {
 
     /// Whether the version that is replied to the message of this index is known to be new enough: the item had no
     /// newer one by the cut with which the round began.
-    pub(crate) fn is_new_enough(&self, asked: &Asked, index: usize, reply: &Message) -> bool
+    pub(crate) fn is_new_enough(&self, asked: &Asked<J>, index: usize, reply: &Message) -> bool
         ensures { IsTrue result → IsCurrent asked.now.begun.cut self.now.cut reply.now }
     {
         if index >= self.sightings.len() {

@@ -1,5 +1,5 @@
 -- What replies rest on stays among the entries as more are added. For `Outgoing`, `entry_of` and the log's thread.
-use Rattle.std.proofs.Common.{◌≡◌, ℕ, Bool, true, false, List, [], ◌∷◌, ◌++◌, ◌==◌, ◌&&◌, All, Contains, Option, Some, None, if◌then◌else◌, option_map, IfSome, refl, sym, ap, subst, arith, eqb-true}
+use Rattle.std.proofs.Common.{◌≡◌, ℕ, Bool, true, false, List, [], ◌∷◌, ◌++◌, ◌==◌, All, Contains, Option, Some, None, if◌then◌else◌, option_map, refl, sym, ap, subst, arith, eqb-true}
 use Rattle.std.specs.List.{find}
 use Rattle.std.proofs.lemmas.List.Elements.{All-push, All-weaker, Contains-append_left, Contains-append_right}
 use Rattle.album_items.specs.Places.{is_placed}
@@ -21,7 +21,7 @@ use Rattle.album_partition.specs.declared.marks.Mark.{Mark}
 use Rattle.album_terminate.specs.declared.deciding.StampState.{StampState}
 use Rattle.album_terminate.specs.declared.deciding.StampState.TheVariants as state
 use Rattle.album_keepers.specs.Envelopes.{ReplyEnvelopeState}
-use Rattle.album_keepers.specs.Held.{may_be_prepared, may_prepare, stamp_prepared, stamp_replied, IsEntryOf, IsCoveredBy, IsCovered, AreCovered, IsFree}
+use Rattle.album_keepers.specs.Held.{may_be_prepared, may_prepare, stamp_prepared, stamp_replied, IsEntryOf, IsCoveredBy, IsCovered, AreCovered}
 use Rattle.album_keepers.specs.declared.log_entries.LogEntry.{LogEntry}
 
 -- ---- in lists
@@ -174,24 +174,3 @@ free_reply p m r h e =
     free_mapped p m r (action_of p m).reply
     (λ said is. free_either (is_part m.to p.number) (on_body p m.from m.body) nothing said
     (free_body p m.from m.body said h) (λ none. absurd (cc)) is) e
-
--- a reply more, if it was added
-free_more : (b : Bool) (rs now : List ReplyEnvelopeState) (r : ReplyEnvelopeState) → All IsFree rs → IsFree r
-    → now ≡ (if b then rs ++ r ∷ [] else rs) → All IsFree now
-free_more true rs now r h free is = subst (All IsFree) (sym is) (All-push IsFree rs r h free)
-free_more false rs now r h free is = subst (All IsFree) (sym is) h
-
--- the second of two is false
-second_false : (a b : Bool) → a ≡ true → false ≡ (a && b) → b ≡ false
-second_false true b e h = sym h
-second_false false b e h = absurd (cc (e))
-
--- the replies stay free where a service with a log has this taken in place
-pub free_in_place : (logged added : Bool) (rs now : List ReplyEnvelopeState) (o : Option ReplyEnvelopeState)
-    (r : ReplyEnvelopeState) (m : Message) → All IsFree rs → logged ≡ true → false ≡ (logged && may_prepare m.body)
-    → IfSome o (λ some. (p : PartitionState) × (answer p m ≡ Some some.reply)) → o ≡ Some r
-    → now ≡ (if added then rs ++ r ∷ [] else rs) → All IsFree now
-free_in_place logged added rs now o r m h log direct said is more =
-    let it : (p : PartitionState) × (answer p m ≡ Some r.reply) =
-    subst (λ (x : Option ReplyEnvelopeState). IfSome x (λ some. (p : PartitionState) × (answer p m ≡ Some some.reply))) is said in
-    free_more added rs now r h (free_reply it.0 m r.reply (second_false logged (may_prepare m.body) log direct) it.1) more

@@ -5,3 +5,4 @@ pub mod KeeperLemmas
 pub mod SweepLemmas
 pub mod StartLemmas
 pub mod HeldLemmas
+pub mod RoundLemmas

@@ -52,6 +52,10 @@ abbrev pub may_prepare : Body → Bool
 may_prepare (body.Request request) = may_be_prepared request
 may_prepare (body.Reply reply) = true
 
+-- after none of the messages
+abbrev pub AreNeverPrepared : List Message → Type 0
+AreNeverPrepared messages = All (λ message. may_prepare message.body ≡ false) messages
+
 -- ---- what it rests on
 
 -- the entry is a mark of the partition that replies, which prepares the stamp

@@ -6,3 +6,4 @@ pub mod Controls
 pub mod Keepers
 pub mod Firsts
 pub mod Held
+pub mod Rounds

@@ -11,12 +11,14 @@ ghost use Rattle.album_keepers.specs.Keepers.{IsKeeper, IsNext};
 ghost use Rattle.album_passes.specs.Reads.{IsCommitted};
 ghost use Rattle.album_keepers.specs.Envelopes.{Shows, IsAnswered};
 ghost use Rattle.album_keepers.specs.Held.{stamp_prepared, IsCoveredAmong, IsCoveredBy};
+ghost use Rattle.album_keepers.specs.Rounds.{RepliesTo};
 ghost use Rattle.album_keepers.specs.Settling.{stamps_in, own_commit, is_unsettled, settle_one, settled, AreSettledIn};
 
 use crate::control::{Control, ControlAnswer, ControlReply, ControlRequest};
 use crate::envelopes::{ReplyEnvelope, RequestEnvelope};
 use crate::log_entries::LogEntry;
 use crate::names::DeskNames;
+use crate::round_reply::RoundReply;
 use album_calls::{Body, Message, Node, Reply, Request, Stamps, Vote};
 use album_items::ItemId;
 use album_partition::{Figures, Mark, Partition};
@@ -91,8 +93,9 @@ impl<J: DeskNames> PartitionKeeper<J> {
         ensures memory { IsOkUnless result Refusal.OutOfMemory }
     {
         let (message, pass) = envelope.open();
-        match self.reply_to(desk, &message, pass) {
-            Ok(Some(reply)) => Ok(Some(self.envelope_of(desk, message, reply))),
+        self.hear(desk, pass);
+        match self.answer_at(desk, 0, &message) {
+            Ok(Some(given)) => Ok(Some(envelope_of(message, given))),
             Ok(None) => {
                 drop(message);
                 Ok(None)
@@ -104,53 +107,100 @@ impl<J: DeskNames> PartitionKeeper<J> {
         }
     }
 
-    /// The reply to the message, if there is one, once all that its pass has seen is taken in, the stamps of a Get are
-    /// settled, and what the message asks is done.
+    /// The same of a message that stays with whoever has sent it. All that its sender had seen was heard before, and
+    /// the reply has the message's index.
+    ///
+    /// # Errors
+    ///
+    /// As `receive`.
+    pub(crate) fn answer_at(
+        &mut self,
+        desk: &Desk,
+        index: usize,
+        message: &Message,
+    ) -> Result<Option<RoundReply<J>>, Refusal>
+        requires table { desk.now.table ≡ J.table }
+        requires terms { desk.now.terms ≡ J.terms }
+        requires sound { IsSound self.old.owner.cut }
+        requires inside { self.old.owner.part < self.old.owner.cut.parts }
+        requires shown { Shows self.old.owner.cut message.now }
+        ensures changed { OnOk result (self.new.partition
+            ≡ after (settled self.old.partition (stamps_in message.now.body)) message.now) }
+        ensures answered { IfOk result (λ reply. option_map (λ some. some.reply) reply
+            ≡ answer (settled self.old.partition (stamps_in message.now.body)) message.now) }
+        ensures index { IfOk result (λ reply. IfSome reply (λ some. some.index ≡ index)) }
+        ensures replies { IfOk result (λ reply. IfSome reply (RepliesTo J.terms.limit message.now)) }
+        ensures point { IfOk result (λ reply. IfSome reply (λ some. some.pass.cut ≡ self.new.owner.cut)) }
+        ensures grown { Extends self.old.owner.cut self.new.owner.cut }
+        ensures sound { IsSound self.new.owner.cut }
+        ensures inside { self.new.owner.part < self.new.owner.cut.parts }
+        ensures unchanged { OnErr result ((count : ℕ)
+            × (self.new.partition ≡ settled self.old.partition (take count (stamps_in message.now.body)))) }
+        ensures memory { IsOkUnless result Refusal.OutOfMemory }
+    {
+        match self.reply_to(desk, message) {
+            Ok(Some(reply)) => Ok(Some(self.round_reply_of(desk, index, message, reply))),
+            Ok(None) => Ok(None),
+            Err(refusal) => Err(refusal),
+        }
+    }
+
+    /// The reply to the message, if there is one, once the stamps of a Get are settled, and what the message asks is
+    /// done.
     ///
     /// # Errors
     ///
     /// `OutOfMemory`. What is settled by then stays so.
-    fn reply_to(
-        &mut self,
-        desk: &Desk,
-        message: &Message,
-        pass: Pass,
-    ) -> Result<Option<Message>, Refusal>
+    fn reply_to(&mut self, desk: &Desk, message: &Message) -> Result<Option<Message>, Refusal>
         requires table { desk.now.table ≡ J.table }
         requires terms { desk.now.terms ≡ J.terms }
-        requires of { pass.table ≡ J.table }
-        requires unnumbered { pass.number ≡ None }
-        requires shown { Shows pass.cut message.now }
+        requires sound { IsSound self.old.owner.cut }
+        requires inside { self.old.owner.part < self.old.owner.cut.parts }
+        requires shown { Shows self.old.owner.cut message.now }
         ensures changed { OnOk result (self.new.partition
             ≡ after (settled self.old.partition (stamps_in message.now.body)) message.now) }
         ensures answered { IfOk result (λ reply. reply
             ≡ answer (settled self.old.partition (stamps_in message.now.body)) message.now) }
         ensures replied { IfOk result (λ reply. IfSome reply
             (IsAnswered J.terms.limit self.new.owner.cut message.now)) }
+        ensures sender { IfOk result (λ reply. IfSome reply
+            (λ some. some.from ≡ Node.Part self.new.partition.number)) }
         ensures grown { Extends self.old.owner.cut self.new.owner.cut }
-        ensures heard { Extends pass.cut self.new.owner.cut }
+        ensures sound { IsSound self.new.owner.cut }
+        ensures inside { self.new.owner.part < self.new.owner.cut.parts }
         ensures unchanged { OnErr result ((count : ℕ)
             × (self.new.partition ≡ settled self.old.partition (take count (stamps_in message.now.body)))) }
         ensures memory { IsOkUnless result Refusal.OutOfMemory }
     {
-        self.take_in(desk, message, pass)?;
-        self.take(desk, message)
+        self.settle(desk, message)?;
+        let taken = self.take(desk, message);
+        self.owner.is_sound();
+        taken
     }
 
-    /// The reply to the message as an envelope, with a pass of the owner's.
-    fn envelope_of(&mut self, desk: &Desk, message: Message, reply: Message) -> ReplyEnvelope<J>
+    /// The reply to the message of this index, with a pass of the owner's.
+    fn round_reply_of(
+        &mut self,
+        desk: &Desk,
+        index: usize,
+        message: &Message,
+        reply: Message,
+    ) -> RoundReply<J>
         requires table { desk.now.table ≡ J.table }
-        requires answered { IsAnswered J.terms.limit self.old.owner.cut message reply }
+        requires answered { IsAnswered J.terms.limit self.old.owner.cut message.now reply }
         requires sender { reply.from ≡ Node.Part self.old.partition.number }
         ensures reply { result.reply ≡ reply }
-        ensures request { result.request ≡ message }
+        ensures index { result.index ≡ index }
+        ensures replies { RepliesTo J.terms.limit message.now result }
         ensures point { result.pass.cut ≡ self.new.owner.cut }
         ensures same { self.new ≡ self.old }
     {
+        // What was asked is for the contract alone.
+        let _message = message;
         let overtaken = self.has_newer(&reply);
         let below = self.settled_below();
         let pass = self.owner.split(desk);
-        ReplyEnvelope::new(message, reply, overtaken, below, pass)
+        RoundReply::new(index, reply, overtaken, below, pass)
     }
 
     /// What a log is to keep before the reply leaves: where it says that a stamp is prepared here, the mark that has
@@ -190,6 +240,11 @@ impl<J: DeskNames> PartitionKeeper<J> {
                 mark: mark.copy()?,
             })),
         }
+    }
+
+    /// Whether the message goes to this partition.
+    pub(crate) fn takes(&self, message: &Message) -> bool {
+        message.to().is_part(self.part)
     }
 
     /// How much the partition has.
@@ -239,7 +294,7 @@ impl<J: DeskNames> PartitionKeeper<J> {
     }
 
     /// Takes in all that the pass has seen.
-    fn hear(&mut self, desk: &Desk, pass: Pass)
+    pub(crate) fn hear(&mut self, desk: &Desk, pass: Pass)
         requires table { desk.now.table ≡ J.table }
         requires of { pass.table ≡ J.table }
         requires unnumbered { pass.number ≡ None }
@@ -250,33 +305,6 @@ impl<J: DeskNames> PartitionKeeper<J> {
         ensures inside { self.new.owner.part < self.new.owner.cut.parts }
     {
         self.owner.join(desk, pass);
-    }
-
-    /// Takes in all that the message's pass has seen, and settles the stamps of a Get.
-    ///
-    /// # Errors
-    ///
-    /// `OutOfMemory`. What is settled by then stays so.
-    fn take_in(&mut self, desk: &Desk, message: &Message, pass: Pass) -> Result<(), Refusal>
-        requires table { desk.now.table ≡ J.table }
-        requires terms { desk.now.terms ≡ J.terms }
-        requires of { pass.table ≡ J.table }
-        requires unnumbered { pass.number ≡ None }
-        requires shown { Shows pass.cut message.now }
-        ensures settled { OnOk result (self.new.partition
-            ≡ settled self.old.partition (stamps_in message.now.body)) }
-        ensures none { OnOk result (AreSettledIn self.new.partition.marks (stamps_in message.now.body)) }
-        ensures unchanged { OnErr result ((count : ℕ)
-            × (self.new.partition ≡ settled self.old.partition (take count (stamps_in message.now.body)))) }
-        ensures memory { IsOkUnless result Refusal.OutOfMemory }
-        ensures grown { Extends self.old.owner.cut self.new.owner.cut }
-        ensures heard { Extends pass.cut self.new.owner.cut }
-        ensures sound { IsSound self.new.owner.cut }
-        ensures inside { self.new.owner.part < self.new.owner.cut.parts }
-        ensures shown { Shows self.new.owner.cut message.now }
-    {
-        self.hear(desk, pass);
-        self.settle(desk, message)
     }
 
     /// Commits those stamps of a Get that are pending here. The sender of the Get has seen each committed at some
@@ -572,6 +600,18 @@ fn own_commit(part: u16, stamp: Stamp) -> Message
         0,
         Body::Request(Request::Commit(stamp)),
     )
+}
+
+/// The reply to the message as an envelope.
+fn envelope_of<J: DeskNames>(message: Message, given: RoundReply<J>) -> ReplyEnvelope<J>
+    requires { RepliesTo J.terms.limit message given }
+    ensures reply { result.reply ≡ given.reply }
+    ensures request { result.request ≡ message }
+    ensures point { result.pass.cut ≡ given.pass.cut }
+{
+    let (overtaken, below) = (given.is_overtaken(), given.settled_below());
+    let (reply, pass) = given.open();
+    ReplyEnvelope::new(message, reply, overtaken, below, pass)
 }
 
 /// The messages as envelopes, with passes of the owner's.

@@ -18,6 +18,7 @@
 // What is sent to a partition and back: messages with their passes, and requests of whoever runs the service.
 mod control;
 mod envelopes;
+mod round_reply;
 
 // A partition with the owner of its history, and the lock under which threads share it.
 mod keeper;
@@ -50,5 +51,6 @@ pub use load::Load;
 pub use log_entries::{LogEntry, MarkLog, NoLog, NotKept};
 pub use mailbox::{Inbox, PartitionMail, SessionMail};
 pub use names::DeskNames;
+pub use round_reply::RoundReply;
 pub use shared_keeper::SharedKeeper;
 pub use start::{start_all, start_log};

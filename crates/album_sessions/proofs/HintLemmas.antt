@@ -21,6 +21,7 @@ use Rattle.album_sessions.specs.Phases.{Outset, IsUnderWay}
 use Rattle.album_channels.specs.Channels.{IsNoReply}
 use Rattle.album_sessions.specs.Sessions.{SessionState}
 use Rattle.album_sessions.specs.Steps.{IsLed, IsTried}
+use Rattle.album_channels.specs.Rounds.{AskedState}
 use Rattle.album_channels.specs.declared.asked.NoReply.{NoReply}
 use Rattle.album_channels.specs.declared.asked.NoReply.TheVariants.{Refused, Overtaken}
 use Rattle.album_sessions.specs.declared.ask.Way.{Way}
@@ -60,20 +61,20 @@ module _ (policy : Policy) (o : Outset) where
 
   -- it hears no more
   pub given_led : (limit : ℕ) (now next : SessionState) (at : Cut) (sent : List Message) (d : Phase) (why : NoReply)
-      (r : Result Way Refusal) → IsUnderWay policy o now at sent d → IsHeard now next → IsNoReply (is_reading d) why
+      (r : Result (Way AskedState) Refusal) → IsUnderWay policy o now at sent d → IsHeard now next → IsNoReply (is_reading d) why
       → (stamp : Option ℕ) → stamp ≡ stamp_at_work d
       → (hinted reads tries : Bool) → reads ≡ is_reading d → tries ≡ (hinted && reads)
       → (tries ≡ true → r ≡ Ok InVain) → (why ≡ Overtaken → r ≡ Ok InVain)
       → (tries ≡ false → (e : Refusal) → why ≡ Refused e → IfSome stamp (λ t. r ≡ Ok (Answered (answer.Unsettled t e))))
       → (tries ≡ false → (e : Refusal) → why ≡ Refused e → IfNone stamp (r ≡ Err e)) → IfOk r (IsLed limit policy o next)
   given_led limit now next at sent d Overtaken r w h none stamp is hinted reads tries same both vain over begun before =
-      subst (λ (z : Result Way Refusal). IfOk z (IsLed limit policy o next)) (sym (over refl)) (tried_so now next at sent d w h none)
+      subst (λ (z : Result (Way AskedState) Refusal). IfOk z (IsLed limit policy o next)) (sym (over refl)) (tried_so now next at sent d w h none)
   given_led limit now next at sent d (Refused why) r w h none stamp is hinted reads tries same both vain over begun before = go tries refl
     where
       go : (b : Bool) → tries ≡ b → IfOk r (IsLed limit policy o next)
       go true e =
           let parts = and_parts hinted reads (sym both ∙ e) in
-          subst (λ (z : Result Way Refusal). IfOk z (IsLed limit policy o next)) (sym (vain e))
+          subst (λ (z : Result (Way AskedState) Refusal). IfOk z (IsLed limit policy o next)) (sym (vain e))
           (tried_so now next at sent d w h (sym same ∙ parts.1))
       go false e = cut_led limit policy o now next at sent d why r w h none stamp is (begun e why refl) (before e why refl)
 

@@ -42,7 +42,7 @@ use Rattle.album_sessions.specs.Sending.{to_announce}
 use Rattle.album_sessions.specs.Sessions.{SessionState, AddsNothing}
 use Rattle.album_keepers.specs.Settling.{AreCommitted}
 use Rattle.album_sessions.specs.Steps.{client_step_in, terms_in, IsBegunFor, IsStarted, IsStill}
-use Rattle.album_channels.specs.declared.asked.Asked.{Asked}
+use Rattle.album_channels.specs.Rounds.{AskedState}
 use Rattle.album_grounds.proofs.EndLemmas.{mapped_from, read_so, trimmed_away}
 use Rattle.album_grounds.proofs.LookLemmas.{done_so, gone_so, looking_first, looking_next, looks_seen, looks_busy}
 use Rattle.album_sessions.proofs.TransitionLemmas.{IsNoted, IsMovedOn, on_heard, adds_heard, heard_same, goes_plain, goes_sent}
@@ -202,7 +202,7 @@ pub started_way : (policy : Policy) (principal : Principal) (ask : Ask) (session
     → (IsProper transition.client.phase → IsUnderWay policy
     (record { principal = principal; ask = ask; session = session; hinted = hinted }) old old.cut transition.sent.items
     transition.client.phase)
-    → (started : Asked × Phase) → IsStarted at transition started
+    → (started : AskedState × Phase) → IsStarted at transition started
     → IsBegunFor policy principal ask session hinted new started
 started_way policy principal ask session hinted old new at transition same from way started h =
     subst (λ (y : SessionState × Cut × List Message × Phase). IsUnderWay policy

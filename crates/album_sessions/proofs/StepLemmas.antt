@@ -28,7 +28,7 @@ use Rattle.album_sessions.specs.Sending.{IsAnnouncedBy}
 use Rattle.album_channels.specs.Channels.{IsClosedOrOutOfMemory}
 use Rattle.album_sessions.specs.Sessions.{SessionState, AddsNothing}
 use Rattle.album_sessions.specs.Steps.{client_step_in, terms_in, IsTaken, IsSent, IsLed}
-use Rattle.album_channels.specs.declared.asked.Asked.{Asked}
+use Rattle.album_channels.specs.Rounds.{AskedState}
 use Rattle.album_channels.specs.declared.asked.NoReply.{NoReply}
 use Rattle.album_sessions.specs.declared.ask.Way.{Way}
 use Rattle.album_sessions.specs.declared.ask.Way.TheVariants.{Answered, Awaits, InVain}
@@ -118,21 +118,21 @@ on_refusal (Err e) P h = h
 
 module _ (limit : ℕ) (policy : Policy) (o : Outset) where
   -- no word comes to what was under way
-  pub cut_led : (now next : SessionState) (at : Cut) (sent : List Message) (d : Phase) (why : Refusal) (r : Result Way Refusal) → IsUnderWay policy o now at sent d
+  pub cut_led : (now next : SessionState) (at : Cut) (sent : List Message) (d : Phase) (why : Refusal) (r : Result (Way AskedState) Refusal) → IsUnderWay policy o now at sent d
       → IsHeard now next → IsClosedOrOutOfMemory why → (stamp : Option ℕ) → stamp ≡ stamp_at_work d
       → IfSome stamp (λ t. r ≡ Ok (Answered (answer.Unsettled t why))) → IfNone stamp (r ≡ Err why) → IfOk r (IsLed limit policy o next)
   cut_led now next at sent d why r w h none (Some t) is begun before =
-      subst (λ (z : Result Way Refusal). IfOk z (IsLed limit policy o next)) (sym begun)
+      subst (λ (z : Result (Way AskedState) Refusal). IfOk z (IsLed limit policy o next)) (sym begun)
       (cut_rests policy o limit now next at sent d t why w (sym is) none h.share h.counter h.silent h.grown h.sound)
   cut_led now next at sent d why r w h none None is begun before =
-      subst (λ (z : Result Way Refusal). IfOk z (IsLed limit policy o next)) (sym before) tt
+      subst (λ (z : Result (Way AskedState) Refusal). IfOk z (IsLed limit policy o next)) (sym before) tt
 
-  sent_led : (asked : Asked) (d : Phase) (messages : List Message) (new : SessionState)
-      → IsUnderWay policy o new (sent_at asked.begun.cut new.cut messages) (sent_last asked.sent.items messages) d
-      → (way : Way) → IsSent asked d messages new.cut way → IsLed limit policy o new way
+  sent_led : (asked : AskedState) (d : Phase) (messages : List Message) (new : SessionState)
+      → IsUnderWay policy o new (sent_at asked.begun.cut new.cut messages) (sent_last asked.sent messages) d
+      → (way : Way AskedState) → IsSent asked d messages new.cut way → IsLed limit policy o new way
   sent_led asked d messages new w (Answered told) cut =
       subst (λ (a : Answer). RestsOn limit policy o.principal o.ask o.session new a) (sym cut.is)
-      (cut_rests policy o limit new new (sent_at asked.begun.cut new.cut messages) (sent_last asked.sent.items messages) d cut.stamp cut.why w cut.of cut.none
+      (cut_rests policy o limit new new (sent_at asked.begun.cut new.cut messages) (sent_last asked.sent messages) d cut.stamp cut.why w cut.of cut.none
       refl refl (λ t own. refl) (extends_self new.cut) w.sound)
   sent_led asked d messages new w InVain sent = absurd sent
   sent_led asked d messages new w (Awaits more next) (is, sends, from) =
@@ -147,7 +147,7 @@ module _ (limit : ℕ) (policy : Policy) (o : Outset) where
   unbegun_now now at sent (phase.Prepares writing) w e = absurd (cc)
   unbegun_now now at sent (phase.Commits writing) w e = absurd (cc)
 
-  pub unbegun_cut : (now next : SessionState) (at : Cut) (sent : List Message) (d : Phase) (r : Result Way Refusal) → IsUnderWay policy o now at sent d
+  pub unbegun_cut : (now next : SessionState) (at : Cut) (sent : List Message) (d : Phase) (r : Result (Way AskedState) Refusal) → IsUnderWay policy o now at sent d
       → IsHeard now next → (stamp : Option ℕ) → stamp ≡ stamp_at_work d → OnErr r (stamp ≡ None) → OnErr r (AddsNothing o.session next)
   unbegun_cut now next at sent d (Ok way) w h stamp is none = tt
   unbegun_cut now next at sent d (Err why) w h stamp is none =
@@ -175,15 +175,15 @@ module _ (limit : ℕ) (policy : Policy) (o : Outset) where
       none (Decides other messages) = refl
       none (Ends out) = refl
 
-  pub unbegun_sent : (new : SessionState) (at : Cut) (sent : List Message) (d : Phase) (r : Result Way Refusal) → IsUnderWay policy o new at sent d
+  pub unbegun_sent : (new : SessionState) (at : Cut) (sent : List Message) (d : Phase) (r : Result (Way AskedState) Refusal) → IsUnderWay policy o new at sent d
       → OnErr r (stamp_at_work d ≡ None) → OnErr r (AddsNothing o.session new)
   unbegun_sent new at sent d (Ok way) w none = tt
   unbegun_sent new at sent d (Err why) w none = unbegun_now new at sent d w none
 
   -- ---- where the messages are sent, the ask continues
 
-  pub all_led : (asked : Asked) (d : Phase) (messages : List Message) (new : SessionState)
-      → IsUnderWay policy o new (sent_at asked.begun.cut new.cut messages) (sent_last asked.sent.items messages) d
-      → (r : Result Way Refusal) → IfOk r (IsSent asked d messages new.cut) → IfOk r (IsLed limit policy o new)
+  pub all_led : (asked : AskedState) (d : Phase) (messages : List Message) (new : SessionState)
+      → IsUnderWay policy o new (sent_at asked.begun.cut new.cut messages) (sent_last asked.sent messages) d
+      → (r : Result (Way AskedState) Refusal) → IfOk r (IsSent asked d messages new.cut) → IfOk r (IsLed limit policy o new)
   all_led asked d messages new w (Ok way) h = sent_led asked d messages new w way h
   all_led asked d messages new w (Err why) h = tt

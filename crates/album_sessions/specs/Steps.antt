@@ -20,7 +20,7 @@ use Rattle.album_sessions.specs.Resting.{RestsOn}
 use Rattle.album_channels.specs.Sending.{sent_at, sent_last}
 use Rattle.album_channels.specs.Channels.{IsClosedOrOutOfMemory}
 use Rattle.album_sessions.specs.Sessions.{SessionState, AddsNothing}
-use Rattle.album_channels.specs.declared.asked.Asked.{Asked}
+use Rattle.album_channels.specs.Rounds.{AskedState}
 use Rattle.album_sessions.specs.declared.step.Reaction.{Reaction}
 use Rattle.album_sessions.specs.declared.step.Reaction.TheVariants.{Answers, Sends}
 use Rattle.album_sessions.specs.declared.ask.Way.{Way}
@@ -52,10 +52,10 @@ pub record IsStill (session now : SessionState) : Type 0 where
   pub adds : AddsNothing session now
 
 -- the ask is under way since it began at this session, by a hint or not
-abbrev pub IsBegunFor : Policy → Principal → Ask → SessionState → Bool → SessionState → Asked × Phase → Type 0
+abbrev pub IsBegunFor : Policy → Principal → Ask → SessionState → Bool → SessionState → AskedState × Phase → Type 0
 IsBegunFor policy principal ask session hinted now started =
     IsUnderWay policy (record { principal = principal; ask = ask; session = session; hinted = hinted }) now
-    started.0.begun.cut started.0.sent.items started.1
+    started.0.begun.cut started.0.sent started.1
 
 -- the client begins to read items for the ask, and its objects are among them
 pub record IsBegunWith
@@ -68,8 +68,8 @@ pub record IsBegunWith
       (record { viewing = record { ask = ask; reads = 0 }; principal = principal }) items) transition
 
 -- its first messages are sent, and it is in its first phase
-pub record IsStarted (at : Cut) (transition : Transition) (started : Asked × Phase) : Type 0 where
-  pub sent : started.0.sent.items ≡ transition.sent.items
+pub record IsStarted (at : Cut) (transition : Transition) (started : AskedState × Phase) : Type 0 where
+  pub sent : started.0.sent ≡ transition.sent.items
   pub begun : started.0.begun.cut ≡ at
   pub phase : started.1 ≡ transition.client.phase
   pub proper : IsProper transition.client.phase
@@ -117,11 +117,11 @@ pub record IsCutOff (phase : Phase) (given : Answer) : Type 0 where
   pub is : given ≡ answer.Unsettled stamp why
 
 -- the messages are sent, and replies are outstanding; or the ask is cut off
-abbrev pub IsSent : Asked → Phase → List Message → Cut → Way → Type 0
+abbrev pub IsSent : AskedState → Phase → List Message → Cut → Way AskedState → Type 0
 IsSent asked phase messages now (Answered given) = IsCutOff phase given
 IsSent asked phase messages now (Awaits more next) =
     (next ≡ phase)
-    × (more.sent.items ≡ sent_last asked.sent.items messages)
+    × (more.sent ≡ sent_last asked.sent messages)
     × (more.begun.cut ≡ sent_at asked.begun.cut now messages)
 IsSent asked phase messages now InVain = ⊥
 
@@ -130,11 +130,11 @@ pub record IsTried (outset : Outset) (now : SessionState) : Type 0 where
   pub adds : AddsNothing outset.session now
 
 -- the ask is answered, and the answer rests on what it should; or it is under way; or it has come to no view
-abbrev pub IsLed : ℕ → Policy → Outset → SessionState → Way → Type 0
+abbrev pub IsLed : ℕ → Policy → Outset → SessionState → Way AskedState → Type 0
 IsLed limit policy outset now (Answered given) =
     RestsOn limit policy outset.principal outset.ask outset.session now given
 IsLed limit policy outset now (Awaits asked phase) =
-    IsUnderWay policy outset now asked.begun.cut asked.sent.items phase
+    IsUnderWay policy outset now asked.begun.cut asked.sent phase
 IsLed limit policy outset now InVain = IsTried outset now
 
 -- the same at the end of what was under way

@@ -37,11 +37,11 @@ use std::time;
 
 /// How far an ask has come.
 #[derive(Drop)]
-pub(crate) enum Way {
+pub(crate) enum Way<A> {
     /// It is answered.
     Answered(Answer),
     /// Replies to these messages are outstanding, and the client is in this phase.
-    Awaits(Asked, Phase),
+    Awaits(A, Phase),
     /// It has come to no view: its hint was in vain, or its read is overtaken.
     InVain,
 }
@@ -166,23 +166,23 @@ impl<J: ServiceNames> Session<J> {
     pub(crate) fn drive<R: Wait + time::Clock>(
         &mut self,
         rt: &R,
-        mut asked: Asked,
+        mut asked: Asked<J>,
         mut phase: Phase,
         course: &Course,
     ) -> Result<Option<Answer>, Refusal>
-        requires way { IsSomehowUnderWay J.policy course.now.hinted self.old asked.begun.cut asked.sent.items phase }
+        requires way { IsSomehowUnderWay J.policy course.now.hinted self.old asked.begun.cut asked.sent phase }
         ensures done { (outset : Outset) → outset.hinted ≡ course.now.hinted
-            → IsUnderWay J.policy outset self.old asked.begun.cut asked.sent.items phase
+            → IsUnderWay J.policy outset self.old asked.begun.cut asked.sent phase
             → IfOk result (IsDone J.terms.limit J.policy outset self.new) }
         ensures refused { IfErr result IsClosedOrOutOfMemory }
         ensures unbegun { (outset : Outset) → outset.hinted ≡ course.now.hinted
-            → IsUnderWay J.policy outset self.old asked.begun.cut asked.sent.items phase
+            → IsUnderWay J.policy outset self.old asked.begun.cut asked.sent phase
             → OnErr result (AddsNothing outset.session self.new) }
         ensures on { IsOn self.old self.new }
     {
         self.channel.is_sound();
         for _ in rt.forever() {
-            let heard = self.wait(rt, &asked, &mut phase);
+            let heard = self.wait(rt, &mut asked, &mut phase);
             match self.go_on(rt, asked, phase, heard, course)? {
                 Way::Answered(answer) => return Ok(Some(answer)),
                 Way::InVain => return Ok(None),
@@ -206,7 +206,7 @@ impl<J: ServiceNames> Session<J> {
         rt: &R,
         principal: &Principal,
         ask: &Ask,
-    ) -> Result<(Asked, Phase), Refusal>
+    ) -> Result<(Asked<J>, Phase), Refusal>
         requires taken { refusal_of ask.now principal.now ≡ None }
         ensures way { (session : SessionState) → IsStill session self.old
             → IfOk result (IsBegunFor J.policy principal.now ask.now session false self.new) }
@@ -228,7 +228,7 @@ impl<J: ServiceNames> Session<J> {
         &mut self,
         rt: &R,
         transition: Transition,
-    ) -> Result<(Asked, Phase), Refusal>
+    ) -> Result<(Asked<J>, Phase), Refusal>
         requires shown { All (Shows self.old.cut) transition.sent.items }
         ensures starts { IfOk result (IsStarted self.old.cut transition) }
         ensures refused { IfErr result IsClosedOrOutOfMemory }
@@ -277,21 +277,21 @@ impl<J: ServiceNames> Session<J> {
     fn go_on<R: Wait>(
         &mut self,
         rt: &R,
-        asked: Asked,
+        asked: Asked<J>,
         phase: Phase,
         heard: Result<Message, NoReply>,
         course: &Course,
-    ) -> Result<Way, Refusal>
-        requires way { IsSomehowWaited J.policy course.now.hinted self.old asked.begun.cut asked.sent.items phase }
+    ) -> Result<Way<Asked<J>>, Refusal>
+        requires way { IsSomehowWaited J.policy course.now.hinted self.old asked.begun.cut asked.sent phase }
         requires replied { IfOk heard
-            (IsReplied J.terms.limit asked.begun.cut self.old.cut asked.sent.items) }
+            (IsReplied J.terms.limit asked.begun.cut self.old.cut asked.sent) }
         requires heard { IfErr heard (IsNoReply (is_reading phase)) }
         ensures way { (outset : Outset) → outset.hinted ≡ course.now.hinted
-            → IsWaited J.policy outset self.old asked.begun.cut asked.sent.items phase
+            → IsWaited J.policy outset self.old asked.begun.cut asked.sent phase
             → IfOk result (IsLed J.terms.limit J.policy outset self.new) }
         ensures refused { IfErr result IsClosedOrOutOfMemory }
         ensures unbegun { (outset : Outset) → outset.hinted ≡ course.now.hinted
-            → IsWaited J.policy outset self.old asked.begun.cut asked.sent.items phase
+            → IsWaited J.policy outset self.old asked.begun.cut asked.sent phase
             → OnErr result (AddsNothing outset.session self.new) }
         ensures on { IsOn self.old self.new }
     {

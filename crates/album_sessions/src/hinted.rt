@@ -104,7 +104,7 @@ impl<J: ServiceNames> Session<J> {
         principal: &Principal,
         ask: &Ask,
         topic: &Topic,
-    ) -> Option<(Asked, Phase)>
+    ) -> Option<(Asked<J>, Phase)>
         requires taken { refusal_of ask.now principal.now ≡ None }
         ensures way { IfSome result (IsBegunFor J.policy principal.now ask.now self.old true self.new) }
         ensures same { self.new ≡ self.old }
@@ -137,10 +137,10 @@ impl<J: ServiceNames> Session<J> {
         &self,
         course: &Course,
         reads: bool,
-        asked: &Asked,
+        asked: &Asked<J>,
         transition: &Transition,
     )
-        requires readable { reads ≡ true → AreReadable (items_asked asked.now.sent.items) }
+        requires readable { reads ≡ true → AreReadable (items_asked asked.now.sent) }
     {
         if course.hinted
             || !reads
@@ -149,7 +149,7 @@ impl<J: ServiceNames> Session<J> {
         {
             return;
         }
-        if let Ok(items) = items_asked(self.alloc, &asked.sent) {
+        if let Ok(items) = items_asked(self.alloc, asked.sent()) {
             let is_denied = matches!(transition.answer, Some(Answer::Denied(_)));
             self.hints.keep(Hint::new(course.topic, items), !is_denied);
         }
@@ -173,7 +173,11 @@ fn viewing_of(alloc: Global, ask: &Ask, items: &[ItemId]) -> Option<Viewing>
 
 /// The outcome of an ask that hears no more. A hint that is tried was in vain, and so was a read that is overtaken: the
 /// ask is made anew. `stamp` is that of its write, if one has begun.
-pub(crate) fn given_up(tries: bool, stamp: Option<Stamp>, why: NoReply) -> Result<Way, Refusal>
+pub(crate) fn given_up<A>(
+    tries: bool,
+    stamp: Option<Stamp>,
+    why: NoReply,
+) -> Result<Way<A>, Refusal>
     ensures tried { tries ≡ true → result ≡ Ok Way.InVain }
     ensures overtaken { why ≡ NoReply.Overtaken → result ≡ Ok Way.InVain }
     ensures begun { tries ≡ false → (e : Refusal) → why ≡ NoReply.Refused e

@@ -49,16 +49,17 @@ impl<J: ServiceNames> Session<J> {
     pub(crate) fn wait<R: Wait + time::Clock>(
         &mut self,
         rt: &R,
-        asked: &Asked,
+        asked: &mut Asked<J>,
         phase: &mut Phase,
     ) -> Result<Message, NoReply>
         ensures way { (outset : Outset)
-            → IsUnderWay J.policy outset self.old asked.now.begun.cut asked.now.sent.items phase.old
-            → IsWaited J.policy outset self.new asked.now.begun.cut asked.now.sent.items phase.new }
+            → IsUnderWay J.policy outset self.old asked.old.begun.cut asked.old.sent phase.old
+            → IsWaited J.policy outset self.new asked.new.begun.cut asked.new.sent phase.new }
         ensures replied { IfOk result
-            (IsReplied J.terms.limit asked.now.begun.cut self.new.cut asked.now.sent.items) }
+            (IsReplied J.terms.limit asked.new.begun.cut self.new.cut asked.new.sent) }
         ensures refused { IfErr result (IsNoReply (is_reading phase.new)) }
         ensures on { IsOn self.old self.new }
+        ensures asked { asked.new ≡ asked.old }
     {
         self.channel.is_sound();
         for _ in rt.forever() {
@@ -74,17 +75,18 @@ impl<J: ServiceNames> Session<J> {
     fn wait_once<R: Wait + time::Clock>(
         &mut self,
         rt: &R,
-        asked: &Asked,
+        asked: &mut Asked<J>,
         phase: &mut Phase,
     ) -> Option<Result<Message, NoReply>>
         ensures way { IfNone result ((outset : Outset)
-            → IsUnderWay J.policy outset self.old asked.now.begun.cut asked.now.sent.items phase.old
-            → IsUnderWay J.policy outset self.new asked.now.begun.cut asked.now.sent.items phase.new) }
+            → IsUnderWay J.policy outset self.old asked.old.begun.cut asked.old.sent phase.old
+            → IsUnderWay J.policy outset self.new asked.new.begun.cut asked.new.sent phase.new) }
         ensures left { IfSome result (λ _. phase.new ≡ phase.old) }
         ensures replied { IfSome result (λ heard. IfOk heard
-            (IsReplied J.terms.limit asked.now.begun.cut self.new.cut asked.now.sent.items)) }
+            (IsReplied J.terms.limit asked.new.begun.cut self.new.cut asked.new.sent)) }
         ensures refused { IfSome result (λ heard. IfErr heard (IsNoReply (is_reading phase.new))) }
         ensures heard { IsHeard self.old self.new }
+        ensures asked { asked.new ≡ asked.old }
     {
         let reads = phase.is_reading();
         let heard = self.hear(rt, asked, reads);
@@ -99,13 +101,14 @@ impl<J: ServiceNames> Session<J> {
     fn hear<R: Wait + time::Clock>(
         &mut self,
         rt: &R,
-        asked: &Asked,
+        asked: &mut Asked<J>,
         reads: bool,
     ) -> Result<Message, NoReply>
         ensures replied { IfOk result
-            (IsReplied J.terms.limit asked.now.begun.cut self.new.cut asked.now.sent.items) }
+            (IsReplied J.terms.limit asked.new.begun.cut self.new.cut asked.new.sent) }
         ensures refused { IfErr result (IsNoReply reads) }
         ensures heard { IsHeard self.old self.new }
+        ensures asked { asked.new ≡ asked.old }
     {
         let heard = self.channel.hear(rt, asked, reads);
         self.channel.is_sound();
@@ -121,14 +124,14 @@ impl<J: ServiceNames> Session<J> {
     /// `Closed` or `OutOfMemory`; or the read is overtaken.
     pub(crate) fn give(
         &self,
-        asked: &Asked,
+        asked: &Asked<J>,
         phase: Phase,
         heard: Result<Message, NoReply>,
     ) -> Result<Transition, NoReply>
         requires replied { IfOk heard
-            (IsReplied J.terms.limit asked.now.begun.cut self.now.cut asked.now.sent.items) }
+            (IsReplied J.terms.limit asked.now.begun.cut self.now.cut asked.now.sent) }
         requires refused { IfErr heard (IsNoReply (is_reading phase)) }
-        ensures taken { IfOk result (IsTaken J.terms.limit asked.now.begun.cut self.now.cut asked.now.sent.items
+        ensures taken { IfOk result (IsTaken J.terms.limit asked.now.begun.cut self.now.cut asked.now.sent
             (terms_in J.policy self.now) (client_step_in self.now) phase) }
         ensures proper { IfOk result (λ transition. IsProper transition.client.phase) }
         ensures refused { IfErr result (IsNoReply (is_reading phase)) }
@@ -197,10 +200,10 @@ impl<J: ServiceNames> Session<J> {
     pub(crate) fn send<R: Wait>(
         &mut self,
         rt: &R,
-        asked: Asked,
+        asked: Asked<J>,
         phase: Phase,
         sent: Vec<Message>,
-    ) -> Result<Way, Refusal>
+    ) -> Result<Way<Asked<J>>, Refusal>
         requires free { IsFree J.policy self.old sent.items phase }
         requires shown { All (Shows (announced_by self.old.cut sent.items phase)) sent.items }
         ensures way { IfOk result (IsSent asked phase sent.items self.new.cut) }
@@ -209,10 +212,11 @@ impl<J: ServiceNames> Session<J> {
         ensures announced { IsAnnouncedBy self.old self.new sent.items phase }
     {
         self.announce(&sent, &phase);
-        match self.channel.send_next_round(rt, asked, sent) {
-            Ok(more) => Ok(Way::Awaits(more, phase)),
-            Err(why) => cut_off(stamp_of(phase), why),
-        }
+        let more = match self.channel.send_next_round(rt, asked, sent) {
+            Ok(more) => more,
+            Err(why) => return cut_off(stamp_of(phase), why),
+        };
+        Ok(Way::Awaits(more, phase))
     }
 
     /// Announces the write whose Prepares these messages are, if they are.
@@ -339,7 +343,7 @@ fn stamp_of(phase: Phase) -> Option<Stamp>
 
 /// The outcome of an ask that is cut off: where a write of this stamp has begun, the answer `Unsettled`, and else the
 /// refusal.
-pub(crate) fn cut_off(stamp: Option<Stamp>, why: Refusal) -> Result<Way, Refusal>
+pub(crate) fn cut_off<A>(stamp: Option<Stamp>, why: Refusal) -> Result<Way<A>, Refusal>
     ensures begun { IfSome stamp (λ t. result ≡ Ok (Way.Answered (Answer.Unsettled t why))) }
     ensures before { IfNone stamp (result ≡ Err why) }
     ensures unbegun { OnErr result (stamp ≡ None) }
