@@ -1,5 +1,6 @@
 """The audit file of a running service: what isn't one, whose line is torn, which is full, stalls, or is moved away; and
 that no file is taken for standard input, output or error where these are closed."""
+import concurrent.futures
 import json
 import os
 import pty
@@ -11,8 +12,8 @@ import threading
 import time
 import tty
 
-from options import ALLOWED, NOTHING_NOTED, READ, opening, talker
-from serving import SECONDS, Connection, Service, free_port, undated, untimed, want, wrong_of
+from options import ALLOWED, NOTHING_NOTED, READ, READ_MISSING, opening, talker
+from serving import SECONDS, Connection, Service, free_port, joined, undated, untimed, want, wrong_of
 from strangers import fills
 from talks import ONE_PIECE
 
@@ -25,9 +26,15 @@ LIST = {"ask": {"do": "get_list", "object": "picture/0"}}
 
 
 def note(who="bo@users", client=1):
-    """The line of a read, but for its moment."""
-    return (b'{"alarm":false,"audit":1,"client":%d,"mask":1,"object":"picture/0","success":true,"who":"%s"}\n'
-            % (client, who.encode()))
+    """The line of what is noted of a read, but for its moment."""
+    return (b'{"alarm":false,"ask":"read","audit":1,"client":%d,"mask":1,"object":"picture/0","success":true,'
+            b'"who":"%s"}\n' % (client, who.encode()))
+
+
+def noted_read(who="bo@users", client=1):
+    """The lines of a read that is served, but for their moments: what is noted of it, and how it has ended."""
+    return note(who, client) + (b'{"ask":"read","client":%d,"object":"picture/0","outcome":"served","who":"%s"}\n'
+                                % (client, who.encode()))
 
 
 def read(path):
@@ -75,7 +82,7 @@ def a_torn_line(program, folder):
     """A line that a kill or a full disk has torn is ended before the first note, so no note is lost in it."""
     path = os.path.join(folder, "notes")
     audited = opening([["allow", "EVERYONE@", 257, 0], ["audit", "EVERYONE@", 1, 16]])
-    whole = b'{"alarm":false,"audit":1,"client":1,"mask":1,"object":"picture/0","success":true,"who":"bo@users"}\n'
+    whole = note()
     ended = f"album: {path}: the last line was torn, and is ended\n"
     for torn, kept, said in ((b'{"alarm":fal', b'{"alarm":fal\n', ended), (whole, whole, ""), (b"", b"", "")):
         with open(path, "wb") as file:
@@ -84,7 +91,7 @@ def a_torn_line(program, folder):
             reader = talker(service, "bo@users")
             want("served", reader.ask(READ)["answer"], "a read")
             with open(path, "rb") as file:
-                want(whole, untimed(file.read().removeprefix(kept)), "the file")
+                want(noted_read(), untimed(file.read().removeprefix(kept)), "the file")
             reader.finish()
             service.end(b'{"alarms":[0,0],"audits":[1,0]}\n', [said.encode()])
 
@@ -164,7 +171,7 @@ def a_file_that_stalls(program, _folder):
         taken.start()
         want(LINES - count, answers(noted, LINES - count, SECONDS), "how many more are answered")
         taken.join()
-        want(note() * LINES, untimed(b"".join(got)), "the file")
+        want(noted_read() * LINES, untimed(b"".join(got)), "the file")
         noted.close()
         service.run.stdin.close()
         want(0, service.run.wait(SECONDS), "the status")
@@ -199,7 +206,7 @@ def a_turn_beside_a_file_that_stalls(program, _folder):
 
 def takes(master, got):
     """Takes the lines of the terminal."""
-    while b"".join(got).count(b"\n") < LINES:
+    while b"".join(got).count(b"\n") < 2 * LINES:
         got.append(os.read(master, 65_536))
 
 
@@ -233,17 +240,17 @@ def moved_away(program, folder):
         os.rename(path, old)
         time.sleep(1.2)
         reads(reader)
-        want((note(), note()), (untimed(read(old)), untimed(read(path))), "the old file and the new one")
+        want((noted_read(), noted_read()), (untimed(read(old)), untimed(read(path))), "the old file and the new one")
         os.remove(path)
         time.sleep(1.2)
         reads(reader, 2)
-        want(note() * 2, untimed(read(path)), "the file after it was deleted")
+        want(noted_read() * 2, untimed(read(path)), "the file after it was deleted")
         with open(old, "wb") as file:
             file.write(b"torn")
         os.replace(old, path)
         time.sleep(1.2)
         reads(reader)
-        want(note(), untimed(read(path).removeprefix(b"torn\n")), "the file that was put there")
+        want(noted_read(), untimed(read(path).removeprefix(b"torn\n")), "the file that was put there")
         reader.finish()
         service.run.stdin.close()
         goes_on = f"album: {path}: it is another file now, ".encode()
@@ -292,16 +299,179 @@ def closed_descriptors(program, folder):
     finally:
         run.kill()
         run.stdout.close()
-    want(note(client=2), untimed(read(path)), "the file")
+    want(noted_read(client=2), untimed(read(path)), "the file")
     for closed, given, said in ((1, words, b"album: writing failed\n"),
                                 (0, ["--audit", path], b"album: reading failed\n")):
         done = subprocess.run([program, "serve", str(free_port()), *given], stderr=subprocess.PIPE, timeout=SECONDS,
                               preexec_fn=lambda number=closed: os.close(number))
         want((1, said), (done.returncode, done.stderr), f"the run without descriptor {closed}")
-        want(note(client=2), untimed(read(path)), "the file")
+        want(noted_read(client=2), untimed(read(path)), "the file")
+
+
+def ends_of(program, folder, opened, *talks):
+    """What the audit file has after these talks, each of a principal, its lines and the words that answer them: of each
+    line the keys that say what it is, in their order."""
+    path = os.path.join(folder, "notes")
+    with Service(program, opened, len(talks), "--audit", path) as service:
+        for who, lines, words in talks:
+            connection = talker(service, who)
+            for line, word in zip(lines, words, strict=True):
+                answer = connection.ask(line)
+                want(word, answer.get("answer", answer.get("name")), "an answer")
+            connection.finish()
+        want(0, service.run.wait(SECONDS), "the status")
+    lines = [json.loads(line) for line in untimed(read(path)).splitlines()]
+    os.remove(path)
+    keys = ("ask", "success", "name", "object", "outcome", "stamp", "who")
+    return [tuple((key, line[key]) for key in keys if key in line) for line in lines]
+
+
+def noted_as(ask, success, thing, who):
+    return ("ask", ask), ("success", success), ("object", thing), ("who", who)
+
+
+def ended_as(ask, outcome, who, thing=None, stamp=None, name=None):
+    row = (("ask", ask), ("name", name), ("object", thing), ("outcome", outcome), ("stamp", stamp), ("who", who))
+    return tuple((key, value) for key, value in row if value is not None)
+
+
+def in_an_album(picture_list, album_list, limit=1000):
+    """amy's picture in her album, with these lists."""
+    return joined([
+        json.dumps({"open": {"limit": limit, "parts": 1}}),
+        '{"item":"picture/0","value":{"content":"","group":0,"home":0,"list":0,"owner":"amy@users","title":"Sea"}}',
+        '{"item":"album/0","value":{"children":["picture/0"],"group":0,"home":null,"list":1,"owner":"amy@users",'
+        '"title":"A"}}',
+        json.dumps({"item": "list/0", "value": {"entries": picture_list}}),
+        json.dumps({"item": "list/1", "value": {"entries": album_list}}),
+        '{"begin":true}',
+    ])
+
+
+def how_requests_end(program, folder):
+    """Behind what was noted of a request there is one line that says what it came to. So a deletion that DELETE_CHILD
+    has granted, of which a failure is noted, is seen to be committed. Of a request that nothing was noted of there is
+    none."""
+    delete = {"ask": {"do": "delete", "object": "picture/0"}}
+    title = {"ask": {"do": "retitle", "object": "picture/0", "title": "Bay"}}
+    denied = opening([["deny", "eve@users", 1, 0], ["allow", "EVERYONE@", 257, 0], ["audit", "EVERYONE@", 1, 48]])
+    want([noted_as("read", False, "picture/0", "eve@users"), ended_as("read", "denied", "eve@users", "picture/0"),
+          noted_as("read", True, "picture/0", "bo@users"), ended_as("read", "served", "bo@users", "picture/0")],
+         ends_of(program, folder, denied, ("eve@users", [READ], ["denied"]),
+                 ("bo@users", [READ, LIST, READ_MISSING, {"pending": 0}, {"x": 1}],
+                  ["served", "denied", "missing", "pending", "BadRequest"])), "the file")
+    by_album = in_an_album([["audit", "EVERYONE@", 65536, 32]], [["allow", "bo@users", 64, 0]])
+    want([noted_as("delete", False, "picture/0", "bo@users"),
+          ended_as("delete", "committed", "bo@users", "picture/0", 65537)],
+         ends_of(program, folder, by_album, ("bo@users", [delete], ["committed"])), "the file")
+    full = in_an_album([["allow", "bo@users", 256, 0], ["audit", "bo@users", 256, 16]], [], limit=2)
+    want([noted_as("retitle", True, "picture/0", "bo@users"),
+          ended_as("retitle", "committed", "bo@users", "picture/0", 65537),
+          noted_as("retitle", True, "picture/0", "bo@users"),
+          ended_as("retitle", "unsettled", "bo@users", "picture/0", 131073, "Full")],
+         ends_of(program, folder, full, ("bo@users", [title] * 2, ["committed", "unsettled"])), "the file")
+    lists = {"ask": {"do": "set_lists", "lists": [["picture/0", []], ["album/0", []]]}}
+    owned = [["audit", "EVERYONE@", 262144, 48], ["allow", "OWNER@", 2032127, 0]]
+    want([noted_as("set_lists", True, "picture/0", "amy@users"), noted_as("set_lists", True, "album/0", "amy@users"),
+          ended_as("set_lists", "committed", "amy@users", stamp=65537)],
+         ends_of(program, folder, in_an_album(owned, owned), ("amy@users", [lists], ["committed"])), "the file")
+
+
+def each_ask_by_its_word(program, folder):
+    """Each line has the word of its request, whatever is asked, and `object` what the request has under it, or under
+    `album`."""
+    allows = [["allow", "OWNER@", 2032127, 0], ["audit", "EVERYONE@", 2032127, 48]]
+    *items, begin = in_an_album(allows, allows).decode().splitlines()
+    owned = {"group": 0, "owner": "amy@users"}
+    more = [{"item": "group/1", "value": {**owned, "list": 2, "members": []}},
+            {"item": "album/1", "value": {**owned, "children": [], "home": None, "list": 3, "title": "B"}},
+            *({"item": f"list/{number}", "value": {"entries": allows}} for number in (2, 3))]
+    opened = joined([*items, *map(json.dumps, more), begin])
+    lists = [["picture/0", allows]]
+    asks = [{"do": word, "object": "picture/0"} for word in ("read", "head", "get_list")]
+    asks += [{"do": word, "album": "album/0"} for word in ("list", "children")]
+    asks += [{"do": "add_picture", "album": "album/0", "title": "Bay", "content": ""},
+             {"do": "add_album", "album": "album/0", "title": "Inner"},
+             {"do": "add_group", "album": "album/0", "members": ["bo@users"]},
+             {"do": "retitle", "object": "picture/0", "title": "Bay"},
+             {"do": "replace", "object": "picture/0", "content": "ff"},
+             {"do": "set_lists", "lists": lists},
+             {"do": "set_members", "object": "group/1", "members": ["bo@users"]},
+             {"do": "share", "lists": lists, "members": [["group/1", []]]},
+             {"do": "move", "object": "picture/0", "to": "album/1"},
+             {"do": "delete", "object": "picture/0"},
+             {"do": "set_owner", "object": "album/0", "owner": "amy@users", "group": 0}]
+    words = [{"list": "listed"}.get(ask["do"], "served") for ask in asks[:5]] + ["committed"] * 11
+    rows = [dict(row) for row in ends_of(program, folder, opened, ("amy@users", [{"ask": ask} for ask in asks], words))]
+    want([ask["do"] for ask in asks], [row["ask"] for row in rows if "outcome" in row], "the words")
+    want([ask.get("object", ask.get("album")) for ask in asks], [row.get("object") for row in rows if "outcome" in row],
+         "the objects")
+    at = 0
+    for row in rows:
+        want(asks[at]["do"], row["ask"], "the word of a line")
+        at += "outcome" in row
+
+
+def a_busy_listing(program, folder):
+    """A listing is ruled on once all is read that decides on its rows. One that is too wide is busy before that:
+    nothing is noted of it, and so there is no outcome."""
+    groups = [json.dumps({"item": f"group/{number}", "value": {
+        "group": 0, "list": 900 + number, "owner": "amy@users",
+        "members": [f"{1000 * number + other}@groups" for other in range(128)]}}) for number in range(1, 6)]
+    wide = [["allow", f"{number}@groups", 1, 64] for number in range(1, 6)]
+    audited = [["allow", "EVERYONE@", 129, 0], ["audit", "EVERYONE@", 129, 48]]
+    *items, begin = in_an_album(wide, audited).decode().splitlines()
+    opened = joined([*items, *groups, begin])
+    listing, children = ({"ask": {"do": word, "album": "album/0"}} for word in ("list", "children"))
+    want([noted_as("children", True, "album/0", "bo@users"), ended_as("children", "served", "bo@users", "album/0")],
+         ends_of(program, folder, opened, ("bo@users", [listing, children], ["busy", "served"])), "the file")
+
+
+def several_attempts(program, folder):
+    """Writes of one picture race in a checked store. Of each request there are the notes of its attempts, and then one
+    line of how it has ended; some are attempted twice."""
+    path, clients, count = os.path.join(folder, "notes"), 8, 40
+    entries = [["allow", "EVERYONE@", 256, 0], ["audit", "EVERYONE@", 256, 16]]
+    opened = joined([
+        json.dumps({"open": {"checked": True, "limit": 100_000, "parts": 2}}),
+        '{"item":"picture/0","value":{"content":"","group":0,"home":0,"list":0,"owner":"amy@users","title":"Sea"}}',
+        json.dumps({"item": "list/0", "value": {"entries": entries}}),
+        '{"begin":true}',
+    ])
+    with Service(program, opened, clients, "--audit", path) as service:
+        def writes(number):
+            connection = talker(service, f"user{number}@users")
+            titles = ({"do": "retitle", "object": "picture/0", "title": str(turn)} for turn in range(count))
+            # (all at once, so that each session asks while the others do)
+            connection.send(b"".join(json.dumps({"ask": title}).encode() + b"\n" for title in titles))
+            words = [json.loads(connection.answer())["answer"] for _ in range(count)]
+            connection.finish()
+            return words
+
+        with concurrent.futures.ThreadPoolExecutor(clients) as pool:
+            answered = list(pool.map(writes, range(clients)))
+        want(0, service.run.wait(SECONDS), "the status")
+    rows = [json.loads(line) for line in read(path).splitlines()]
+    most = 0
+    for number in range(clients):
+        attempts, outcomes = 0, []
+        for row in (row for row in rows if row["who"] == f"user{number}@users"):
+            want("retitle", row["ask"], "the ask")
+            if "outcome" in row:
+                want(True, 1 <= attempts <= 8, f"that {attempts} attempts were noted before {row}")
+                most, attempts = max(most, attempts), 0
+                outcomes.append(row["outcome"])
+            else:
+                attempts += 1
+        want((0, answered[number]), (attempts, outcomes), "what is left, and the outcomes")
+    want(True, most >= 2, "that some request was attempted twice")
 
 
 FACTS = {
+    "how requests end": how_requests_end,
+    "each ask by its word": each_ask_by_its_word,
+    "a busy listing": a_busy_listing,
+    "several attempts": several_attempts,
     "what is no audit file": no_audit_file,
     "a torn line of an audit file": a_torn_line,
     "a full disk, and a client that takes no answer": a_full_disk_beside_a_deaf_client,

@@ -4,6 +4,7 @@ import fcntl
 import itertools
 import json
 import os
+import pathlib
 import re
 import signal
 import socket
@@ -303,7 +304,38 @@ def refused_on_standard_error(program):
         want(True, first.startswith(b"album: port %d: " % port), "that the first line has the port and the reason")
 
 
+def held_by(service):
+    """How many kilobytes the service holds."""
+    with open(f"/proc/{service.run.pid}/status") as lines:
+        return next(int(line.split()[1]) for line in lines if line.startswith("VmRSS"))
+
+
+def what_a_long_line_took(program):
+    """A line of 60,000 bytes takes several buffers of its length. They are given back once it is answered: by the talk,
+    and with the settings of `./album` to the system, too."""
+    script = (pathlib.Path(__file__).resolve().parent.parent / "album").read_text()
+    setting = ":".join(re.findall(r"glibc\.malloc\.\w+=\d+", script))
+    want(4, setting.count("="), "how many settings there are")
+    count, long = 60, {"x": "y" * 60_000}
+    for words in (["--until-eof"], ["--epochs", "--until-eof"]):
+        with Service(program, OPENING, 65535, *words, goes_on=True, settings={"GLIBC_TUNABLES": setting}) as service:
+            connections = [greeted(service) for _ in range(count)]
+            for connection in connections:
+                want("served", connection.ask({"ask": {"do": "read", "object": "picture/0"}})["answer"], "a read")
+            before = held_by(service)
+            for connection in connections:
+                want("BadRequest", connection.ask(long)["name"], "what a long line is answered")
+            time.sleep(0.3)
+            took = (held_by(service) - before) / count
+            want(True, took < 35, f"that {took:.0f} KB of a long line are kept by each connection")
+            for connection in connections:
+                connection.finish()
+            service.run.stdin.close()
+            service.end(NOTHING_NOTED, [b""])
+
+
 FACTS = {
+    "what a long line took": what_a_long_line_took,
     "files run out, and come back": files_that_run_out,
     "one connection more than is served": beyond_the_last,
     "until the end of its input": until_the_end_of_its_input,

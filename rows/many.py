@@ -10,7 +10,7 @@ import tempfile
 import threading
 import time
 
-from audits import AUDITED, note
+from audits import AUDITED, noted_read
 from options import ALLOWED, NOTHING_NOTED, READ, talker
 from serving import MOMENT, RESET, SECONDS, Connection, Differs, Service, free_port, undated, untimed, want, wrong_of
 from strangers import CLOSED, THREADS, first_answer, is_open, said_soon, seconds_of, until_eof
@@ -238,14 +238,14 @@ def notes_on_standard_error(program, folder):
             reader = talker(service, "bo@users")
             for count in range(1, 4):
                 want("served", reader.ask(READ)["answer"], "a read")
-                want(note() * count, untimed(service.said()), "standard error before the answer")
+                want(noted_read() * count, untimed(service.said()), "standard error before the answer")
             reader.finish()
             if goes_on:
                 service.run.stdin.close()
             if goes_on or not words:
                 want(b'{"alarms":[0,0],"audits":[3,0]}\n', service.run.stdout.read(), "the end")
                 want(0, service.run.wait(SECONDS), "the status")
-                want(note() * 3, untimed(service.said()), "standard error")
+                want(noted_read() * 3, untimed(service.said()), "standard error")
 
 
 def notes_among_other_lines(program, _folder):
@@ -273,10 +273,10 @@ def notes_among_other_lines(program, _folder):
         service.run.stdin.close()
         want(b'{"alarms":[0,0],"audits":[%d,0]}\n' % sum(counts), service.run.stdout.read(), "the end")
         want(0, service.run.wait(SECONDS), "the status")
-        seen = {"note": 0, "figures": 0, "fault": 0}
+        seen = {"note": 0, "outcome": 0, "figures": 0, "fault": 0}
         for line in service.said().splitlines(keepends=True):
             seen[kind_of(line)] += 1
-        want(sum(counts), seen["note"], "how many notes there are")
+        want((sum(counts), sum(counts)), (seen["note"], seen["outcome"]), "how many notes and outcomes there are")
         want(True, seen["figures"] >= 2 and seen["fault"] >= 8, f"that {seen} has all kinds")
 
 
@@ -284,7 +284,10 @@ def kind_of(line):
     """What a line of standard error is, whole as it has to be."""
     if line.startswith(b"{"):
         row = json.loads(line)
-        return "figures" if "versions" in row else "note" if row["time"] and row["who"] else "none"
+        if "versions" in row:
+            return "figures"
+        want(True, bool(row["time"] and row["who"] and row["ask"]), f"that {line!r} says when, who and what")
+        return "outcome" if "outcome" in row else "note"
     undated(line)
     want(True, line.endswith(b"failed\n"), f"that {line!r} is a fault's line")
     return "fault"

@@ -1,5 +1,6 @@
 """A running service, `album serve`, and connections to it, for the rows."""
 import json
+import os
 import re
 import resource
 import signal
@@ -50,9 +51,10 @@ def free_port():
 class Service:
     """A running service, which is killed where it is left before its end. It may have further words on its command
     line, an input that doesn't end with the opening, so many files and bytes of memory and of a file at most,
-    and a file for what it says."""
+    a file for what it says, and further settings in its environment."""
 
-    def __init__(self, program, opening, conns, *words, goes_on=False, files=None, memory=None, size=None, errors=None):
+    def __init__(self, program, opening, conns, *words, goes_on=False, files=None, memory=None, size=None, errors=None,
+                 settings=None):
         self.port = free_port()
         self.errors = tempfile.TemporaryFile() if errors is None else errors
 
@@ -69,7 +71,7 @@ class Service:
             lines.seek(0)
             self.run = subprocess.Popen([program, "serve", str(self.port), "--conns", str(conns), *words],
                                         stdin=subprocess.PIPE if goes_on else lines, stdout=subprocess.PIPE,
-                                        stderr=self.errors, preexec_fn=limit,
+                                        stderr=self.errors, preexec_fn=limit, env={**os.environ, **(settings or {})},
                                         restore_signals=size is None)
         if goes_on:
             self.run.stdin.write(opening)

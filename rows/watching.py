@@ -19,10 +19,15 @@ COUNTED = [["deny", "eve@users", 1, 0], ["allow", "EVERYONE@", 1, 0], ["audit", 
 
 
 def note(client, who, entry, success, alarm=False):
-    """A line of an audit file, but for its moment."""
+    """The line of what is noted of a read, but for its moment."""
     truth = {True: "true", False: "false"}
-    return (f'{{"alarm":{truth[alarm]},"audit":{entry},"client":{client},"mask":1,"object":"picture/0",'
+    return (f'{{"alarm":{truth[alarm]},"ask":"read","audit":{entry},"client":{client},"mask":1,"object":"picture/0",'
             f'"success":{truth[success]},"who":"{who}"}}\n')
+
+
+def ended(client, who, outcome="served"):
+    """The line of how a read has ended, but for its moment."""
+    return f'{{"ask":"read","client":{client},"object":"picture/0","outcome":"{outcome}","who":"{who}"}}\n'
 
 
 def text_of(path):
@@ -41,9 +46,11 @@ def notes_in_a_file(program, folder):
         with Service(program, AUDITED, 3, "--audit", path) as service:
             bo, eve, nobody = (talker(service, who) for who in ("bo@users", "eve@users", "ANONYMOUS@"))
             for reader, answer, notes in (
-                    (bo, "served", note(1, "bo@users", 2, True)),
-                    (eve, "denied", note(2, "eve@users", 2, False) + note(2, "eve@users", 3, False, alarm=True)),
-                    (nobody, "served", note(3, "ANONYMOUS@", 2, True)), (bo, "served", note(1, "bo@users", 2, True))):
+                    (bo, "served", note(1, "bo@users", 2, True) + ended(1, "bo@users")),
+                    (eve, "denied", note(2, "eve@users", 2, False) + note(2, "eve@users", 3, False, alarm=True)
+                     + ended(2, "eve@users", "denied")),
+                    (nobody, "served", note(3, "ANONYMOUS@", 2, True) + ended(3, "ANONYMOUS@")),
+                    (bo, "served", note(1, "bo@users", 2, True) + ended(1, "bo@users"))):
                 want(answer, reader.ask(READ)["answer"], "an answer")
                 lines += notes
                 want(lines, text_of(path), "the file")
@@ -62,8 +69,9 @@ def notes_of_many(program, folder):
                 connection.send(json.dumps(READ).encode() + b"\n")
             for n, connection in enumerate(connections):
                 want("served", json.loads(connection.answer())["answer"], "an answer")
-                mine = text_of(path).count(note(n + 1, f"user{n}@users", 2, True))
-                want(turn + 1, mine, "how many notes of it are there")
+                text, who = text_of(path), f"user{n}@users"
+                mine = text.count(note(n + 1, who, 2, True)), text.count(ended(n + 1, who))
+                want((turn + 1, turn + 1), mine, "how many notes of it are there, and how many outcomes")
         for connection in connections:
             connection.finish()
         service.end(b'{"alarms":[0,0],"audits":[100,0]}\n', [b""])
@@ -192,7 +200,39 @@ def warnings_without_figures(program, _folder):
         amy.finish()
 
 
+def bytes_of_partitions(program, _folder):
+    """With --epochs each line of figures says about how many bytes the writes of the epoch take, of each partition: a
+    retitle some hundreds, a list of a hundred entries some thousands, and a turn gives room."""
+    opened = opening_of_two([], 1_000)
+    with Service(program, opened, 65535, "--epochs", "--stats", "1", "--log-mb", "1") as service:
+        amy = talker(service, "amy@users")
+        want([0, 0], figure(service, "bytes", lambda bytes: True), "the bytes at first")
+        retitles(amy, "picture/0", 1)
+        first, other = figure(service, "bytes", lambda bytes: bytes[0] > 0)
+        want((True, 0), (200 < first < 2_000, other), f"that {first} bytes are those of a title")
+        wide = [["picture/0", [["allow", f"user{n}@users", 1, 0] for n in range(100)] + OWNED]]
+        want("committed", amy.ask({"ask": {"do": "set_lists", "lists": wide}})["answer"], "a wide list")
+        then, _ = figure(service, "bytes", lambda bytes: bytes[0] > first)
+        want(True, 4_000 < then - first < 40_000, f"that {then - first} bytes are those of a wide list")
+        for _ in range(4_000_000 // (then - first)):  # four times as much as an epoch may have
+            want("committed", amy.ask({"ask": {"do": "set_lists", "lists": wide}})["answer"], "a wide list")
+        figure(service, "bytes", lambda bytes: bytes[0] < 1_200_000)
+        amy.close()
+
+
+def figure(service, key, holds):
+    """The value of the last line of figures, once it is there and holds."""
+    for _ in range(10 * SECONDS):
+        lines = [line for line in service.said().decode().splitlines() if line.startswith("{")]
+        if lines and holds(json.loads(lines[-1])[key]):
+            want(sorted(json.loads(lines[-1])), list(json.loads(lines[-1])), "the keys")
+            return json.loads(lines[-1])[key]
+        time.sleep(0.1)
+    return want(True, False, f"that {lines[-1:]} holds")
+
+
 FACTS = {
+    "bytes of partitions": bytes_of_partitions,
     "notes in a file": notes_in_a_file,
     "notes of many connections": notes_of_many,
     "a note that can't be written": a_note_that_cannot_be_written,

@@ -1,9 +1,10 @@
-//! The notes of a service that go to its audit file: each is in the file before its request is answered.
+//! The notes of a service that go to its audit file, and how the requests have ended that were noted: each is in the
+//! file before its request is answered.
 //!
 //! A thread of its own writes them (`writer`), so a file that stalls holds nobody up but who has noted something. What
 //! waits to be written are the notes of requests that are under way: who has noted waits for that, and asks nothing
 //! meanwhile.
-ghost use Rattle.std.specs.Prelude.{◌≡◌, IfErr};
+ghost use Rattle.std.specs.Prelude.{◌≡◌, IfErr, IsOkUnless};
 
 use crate::audit_file::AuditFile;
 use crate::log::{Log, Unwritten};
@@ -14,8 +15,8 @@ use crate::writer::Writer;
 use album_audit::Record;
 use album_eval::Principal;
 use album_judge::Fault;
-use album_stamps::Refusal;
-use album_talk::Journal;
+use album_stamps::{ClientNo, Refusal};
+use album_talk::{AskWord, Ending, Journal};
 use album_threads::{ServiceNames, Session};
 use std::alloc::{AllocError, Global};
 use std::collections::BTreeMap;
@@ -23,15 +24,24 @@ use std::sync::atomic::{AtomicBool, Ordering};
 use std::sync::{Arc, Condvar, Mutex, Wait};
 use std::{mem, thread, time};
 
-/// The lines of notes that wait to be written.
+/// What was given of a session.
+#[derive(Clone, Copy)]
+struct Given {
+    /// How many lines were ever given by its last.
+    last: u64,
+    /// Whether a note was, and not yet how its request has ended.
+    is_open: bool,
+}
+
+/// The lines that wait to be written.
 #[derive(Drop)]
 struct Waiting {
     log: Log<Vec<u8>>,
-    /// How many records were ever given here, and how many of them are in the file.
+    /// How many lines were ever given here, and how many of them are in the file.
     given: u64,
     written: u64,
-    /// Of each session, how many were given by its last.
-    last_of: BTreeMap<u16, u64>,
+    /// By the numbers of the sessions.
+    given_of: BTreeMap<u16, Given>,
     /// Whether no more is to be waited for, and whether no more will come.
     is_given_up: bool,
     is_ended: bool,
@@ -50,7 +60,7 @@ pub(crate) struct Pending {
     done: Condvar,
 }
 
-/// Lines, and how many records were given by the last of them.
+/// Lines, and how many were given by the last of them.
 #[derive(Drop)]
 pub(crate) struct Lines {
     pub text: Vec<u8>,
@@ -75,7 +85,7 @@ impl Pending {
             log: Log::new(alloc, Vec::new(alloc)),
             given: 0,
             written: 0,
-            last_of: BTreeMap::new(alloc),
+            given_of: BTreeMap::new(alloc),
             is_given_up: false,
             is_ended: false,
         };
@@ -166,11 +176,20 @@ impl Waiting {
         })
     }
 
-    /// Whether all that the session has noted is in the file.
+    /// Whether all that was given of the session is in the file.
     fn has_written(&self, client: u16) -> bool {
-        match self.last_of.get(&client) {
-            Some(last) => *last <= self.written,
+        match self.given_of.get(&client) {
+            Some(given) => given.last <= self.written,
             None => true,
+        }
+    }
+
+    /// Whether something was noted of the session's request. How a request has ended that nothing was noted of isn't
+    /// written.
+    fn is_open(&self, client: u16) -> bool {
+        match self.given_of.get(&client) {
+            Some(given) => given.is_open,
+            None => false,
         }
     }
 
@@ -181,9 +200,45 @@ impl Waiting {
     /// `AllocError`.
     fn count(&mut self, records: &[Record]) -> Result<(), AllocError> {
         for record in records {
-            self.given = self.given.saturating_add(1);
-            let _ = self.last_of.insert(record.client.number(), self.given)?;
+            self.count_one(record.client.number(), true)?;
         }
+        Ok(())
+    }
+
+    /// Writes how the session's request has ended, at this moment, if something was noted of it.
+    ///
+    /// # Errors
+    ///
+    /// `OutOfMemory`.
+    fn end(
+        &mut self,
+        alloc: Global,
+        client: ClientNo,
+        moment: &str,
+        ending: Option<Ending>,
+    ) -> Result<(), Refusal> {
+        let Some(ending) = ending else {
+            return Ok(());
+        };
+        if !self.is_open(client.number()) {
+            return Ok(());
+        }
+        let written = self.log.end(alloc, client, moment, &ending);
+        match written {
+            Ok(()) => Ok(self.count_one(client.number(), false)?),
+            Err(Unwritten::Memory | Unwritten::File(_)) => Err(Refusal::OutOfMemory),
+        }
+    }
+
+    /// One more line of the session is given.
+    ///
+    /// # Errors
+    ///
+    /// `AllocError`.
+    fn count_one(&mut self, client: u16, is_open: bool) -> Result<(), AllocError> {
+        self.given = self.given.saturating_add(1);
+        let last = self.given;
+        let _ = self.given_of.insert(client, Given { last, is_open })?;
         Ok(())
     }
 }
@@ -275,11 +330,12 @@ impl<T: Wait + time::Clock> AuditJournal<T> {
 
     /// The connection of this session has ended. What was noted of it is written still.
     pub(crate) fn forget<J: ServiceNames, R: Wait>(&self, rt: &R, session: &Session<J>) {
-        let _ = self.settle(rt, session, None);
+        let _ = self.settle(rt, session, None, None);
         if let Some(pending) = &self.pending {
             let client = session.client().number();
             let mut waiting = pending.waiting.lock(rt);
-            let _ = waiting.last_of.remove(&client);
+            let _ = waiting.given_of.remove(&client);
+            let _ = waiting.log.asked.remove(&client);
             let who = waiting.log.named.remove(&client);
             drop(waiting);
             drop(who);
@@ -318,7 +374,8 @@ impl<T: Wait + time::Clock> AuditJournal<T> {
         }
     }
 
-    /// What was noted since somebody last looked is given to the thread that writes.
+    /// What was noted since somebody last looked is given to the thread that writes, and then how the session's request
+    /// has ended, if something was noted of it.
     ///
     /// # Errors
     ///
@@ -329,51 +386,69 @@ impl<T: Wait + time::Clock> AuditJournal<T> {
         pending: &Pending,
         session: &Session<J>,
         who: Option<&Principal>,
+        ending: Option<Ending>,
     ) -> Result<(), Fault>
         ensures { IfErr result (λ fault. fault ≡ Fault.Writing) }
     {
+        let client = session.client();
         let mut waiting = pending.waiting.lock(rt);
+        let before = waiting.given;
         let records = session.take_records(rt);
-        let given = self.give_all(&mut waiting, session, who, &records);
+        let given = self.give_all(&mut waiting, client, who, &records, ending);
+        let has_more = waiting.given > before;
         drop(waiting);
         if given.is_err() {
             self.warn("out of memory");
             pending.fail(rt);
             return Err(Fault::Writing);
         }
-        if !records.is_empty() {
+        if has_more {
             pending.more.notify_one();
         }
         Ok(())
     }
 
-    fn give_all<J: ServiceNames>(
+    fn give_all(
         &self,
         waiting: &mut Waiting,
-        session: &Session<J>,
+        client: ClientNo,
         who: Option<&Principal>,
         records: &[Record],
+        ending: Option<Ending>,
     ) -> Result<(), Refusal> {
-        let moment = if records.is_empty() {
+        let moment = if records.is_empty() && !waiting.is_open(client.number()) {
             String::new(self.alloc)
         } else {
             let now = now(&self.rt);
             format!(in self.alloc; "{now:.3}")?
         };
-        let written = waiting
-            .log
-            .write(self.alloc, session.client(), who, &moment, records);
+        let written = waiting.log.write(self.alloc, client, who, &moment, records);
         match written {
-            Ok(()) => Ok(waiting.count(records)?),
-            Err(Unwritten::Memory | Unwritten::File(_)) => Err(Refusal::OutOfMemory),
+            Ok(()) => waiting.count(records)?,
+            Err(Unwritten::Memory | Unwritten::File(_)) => return Err(Refusal::OutOfMemory),
         }
+        waiting.end(self.alloc, client, &moment, ending)
     }
 }
 
 impl<T: Wait + time::Clock> Journal for AuditJournal<T> {
     ghost use Rattle.std.specs.Prelude.{⊤};
 
-    ghost recorded = { λ _ _. ⊤ };
+    ghost recorded = { λ _ _ _. ⊤ };
+
+    /// Known before anything is noted of it: others may give that to the thread that writes.
+    fn begin<R: Wait>(
+        &self,
+        rt: &R,
+        client: ClientNo,
+        who: &Principal,
+        ask: AskWord,
+    ) -> Result<(), Refusal> {
+        match &self.pending {
+            Some(pending) => pending.waiting.lock(rt).log.begin(client, who, ask),
+            None => Ok(()),
+        }
+    }
 
     /// Whoever is first gives what others have noted too: records are written in the order of the book.
     fn settle<J: ServiceNames, R: Wait>(
@@ -381,6 +456,7 @@ impl<T: Wait + time::Clock> Journal for AuditJournal<T> {
         rt: &R,
         session: &Session<J>,
         who: Option<&Principal>,
+        ending: Option<Ending>,
     ) -> Result<(), Fault> {
         let Some(pending) = &self.pending else {
             return Ok(());
@@ -388,7 +464,7 @@ impl<T: Wait + time::Clock> Journal for AuditJournal<T> {
         if pending.has_failed() {
             return Err(Fault::Writing);
         }
-        self.give(rt, pending, session, who)?;
+        self.give(rt, pending, session, who, ending)?;
         pending.wait(rt, session.client().number())
     }
 }

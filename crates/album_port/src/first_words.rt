@@ -4,7 +4,8 @@ use crate::incoming::Incoming;
 use crate::resumed::{Peer, Resumed};
 use album_eval::Principal;
 use album_judge::Fault;
-use album_talk::Journal;
+use album_stamps::{ClientNo, Refusal};
+use album_talk::{AskWord, Ending, Journal};
 use album_threads::{ServiceNames, Session};
 use std::alloc::{AllocError, Global};
 use std::io::{ErrorKind, Read};
@@ -157,13 +158,24 @@ pub(crate) struct Hearing<'a, A> {
 impl<A: Journal> Journal for Hearing<'_, A> {
     ghost use Rattle.std.specs.Prelude.{⊤};
 
-    ghost recorded = { λ _ _. ⊤ };
+    ghost recorded = { λ _ _ _. ⊤ };
+
+    fn begin<T: Wait>(
+        &self,
+        rt: &T,
+        client: ClientNo,
+        who: &Principal,
+        ask: AskWord,
+    ) -> Result<(), Refusal> {
+        self.journal.begin(rt, client, who, ask)
+    }
 
     fn settle<J: ServiceNames, T: Wait>(
         &self,
         rt: &T,
         session: &Session<J>,
         who: Option<&Principal>,
+        ending: Option<Ending>,
     ) -> Result<(), Fault> {
         if let Some(who) = who
             && !self.said.is_known()
@@ -171,6 +183,6 @@ impl<A: Journal> Journal for Hearing<'_, A> {
             self.said.is(rt, who);
             self.connections.name(rt, self.number);
         }
-        self.journal.settle(rt, session, who)
+        self.journal.settle(rt, session, who, ending)
     }
 }

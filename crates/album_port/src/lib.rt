@@ -4,9 +4,10 @@
 //! its talk, which is `album_talk`'s; to a writer that the port is served, and at the end the totals; or a fault.
 //!
 //! Read `port` first: it opens a service (`opening`), whose epoch (`one_epoch`) gives each connection a thread
-//! (`accepting`, `connections`), writes its notes to a file (`audit`, `log`, `writer`) and prints its figures
-//! (`watch`). `waker` waits for whoever connects, `resumed` reads anew after an interruption, and `first_words` reads
-//! until it is said who talks. specs/Audits.antt says what the audit file has.
+//! (`accepting`, `connections`), writes its notes to a file, and how the requests have ended that were noted
+//! (`audit`, `log`, `ending_line`, `writer`), and prints its figures (`watch`). `waker` waits for whoever connects,
+//! `resumed` reads anew after an interruption, and `first_words` reads until it is said who talks. specs/Audits.antt
+//! says what the audit file has.
 //!
 //! Nobody locks it out: an address has so many connections at once (`addresses`), where files are short the
 //! oldest that hasn't said who it is gives way (`silent`), and a service that can open no session ends (`failing`).
@@ -24,6 +25,7 @@ mod opening;
 // The audit file.
 mod audit;
 mod audit_file;
+mod ending_line;
 mod log;
 mod writer;
 
@@ -50,6 +52,7 @@ mod port;
 mod watch;
 
 pub use audit_file::AuditFile;
+pub use ending_line::worked_endings;
 pub use epochs::{EpochEnd, Port};
 pub use opening::opening_of_text;
 pub use port::{Host, Served, Serving, first_opening, serve, serve_beside, serve_for, serve_until};

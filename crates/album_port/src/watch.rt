@@ -6,7 +6,7 @@ use crate::moments::now;
 use crate::notices::Notice;
 use crate::one_epoch::Shared;
 use crate::port::Host;
-use album_threads::{Figures, Gauge, ServiceNames};
+use album_threads::{Figures, Gauge, Load, ServiceNames};
 use album_wire::{Counted, ServiceFigures, write_figures};
 use crossbeam_channel::{Receiver, RecvTimeoutError};
 use std::alloc::{AllocError, Global};
@@ -100,8 +100,10 @@ fn look<J: ServiceNames, T: Host>(
         let connections = &shared.connections;
         let figures = figures_of(rt, &shared.gauge, connections, parts);
         let _ = warned.warn(rt, alloc, connections, shared.turn.is_some(), &figures);
-        if shared.stats > 0 {
-            print(rt, alloc, connections, &figures);
+        if shared.stats > 0
+            && let Ok(loads) = shared.gauge.loads(rt)
+        {
+            print(rt, alloc, connections, &figures, &loads);
         }
     }
 }
@@ -138,34 +140,56 @@ fn print<T: Wait + time::Clock>(
     alloc: Global,
     connections: &Connections,
     figures: &ServiceFigures,
+    loads: &[Load],
 ) {
     let notices = &connections.notices;
     if let Ok(line) = write_figures(alloc, figures)
         && let Ok(line) = String::from_utf8(line)
-        && let Ok(line) = dated(rt, alloc, notices.are_dated(), line)
+        && let Ok(line) = completed(rt, alloc, notices.are_dated(), loads, line)
     {
         notices.send_if_read(rt, Notice::Figures(line));
     }
 }
 
-/// The line of figures, with the moment in its place among the keys, where a line says when.
+/// The line of figures, with the bytes and the moment in their places among the keys, where a line says when.
 ///
 /// # Errors
 ///
 /// `AllocError`.
-fn dated<T: time::Clock>(
+fn completed<T: time::Clock>(
     rt: &T,
     alloc: Global,
     is_dated: bool,
+    loads: &[Load],
     line: String,
 ) -> Result<String, AllocError> {
-    match line.split_once(",\"versions\":") {
-        Some((before, versions)) if is_dated => {
-            let at = now(rt);
-            format!(in alloc; "{before},\"time\":\"{at:.3}\",\"versions\":{versions}")
+    match parts_of(&line) {
+        Some((notes, marks, versions)) if is_dated => {
+            let (at, bytes) = (now(rt), bytes_text(alloc, loads)?);
+            format!(in alloc;
+                "{notes},\"bytes\":[{bytes}],\"connections\":{marks},\"time\":\"{at:.3}\",\"versions\":{versions}"
+            )
         }
         _ => Ok(line),
     }
+}
+
+/// What stands before the connections, from there to the versions, and from these on.
+fn parts_of(line: &str) -> Option<(&str, &str, &str)> {
+    let (notes, behind) = line.split_once(",\"connections\":")?;
+    let (marks, versions) = behind.split_once(",\"versions\":")?;
+    Some((notes, marks, versions))
+}
+
+/// About how many bytes the writes take, a number for each partition.
+fn bytes_text(alloc: Global, loads: &[Load]) -> Result<String, AllocError> {
+    let mut text = String::new(alloc);
+    for load in loads {
+        let comma = if text.is_empty() { "" } else { "," };
+        let bytes = load.bytes;
+        text.push_str(&format!(in alloc; "{comma}{bytes}")?)?;
+    }
+    Ok(text)
 }
 
 impl Warned {

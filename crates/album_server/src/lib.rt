@@ -12,7 +12,10 @@ pub use album_replay::{
     what_replay_prints, worked_replays,
 };
 pub use album_stamps::Refusal;
-pub use album_talk::{Admins, Epoch, Journal, NoJournal, converse, only_admins_are_heard, talk_on};
+pub use album_talk::{
+    Admins, AskWord, Ending, Epoch, Journal, NoJournal, Outcome, converse, only_admins_are_heard,
+    talk_on,
+};
 
 // A port.
 pub use album_port::{

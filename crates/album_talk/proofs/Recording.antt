@@ -4,10 +4,10 @@ use Rattle.std.proofs.Common.{◌≡◌, ◌≢◌, List, [], ◌∷◌, ◌++�
 use Rattle.std.proofs.KnownBytes.{Appends-nil, Appends-trans}
 use Rattle.std.specs.Io.KnownBytes.{Appends}
 use Rattle.album_eval.specs.declared.policies.Policy.{Policy}
-use Rattle.album_sessions.specs.Sessions.{SessionState}
 use Rattle.album_lines.specs.Lines.{Line}
-use Rattle.album_talk.specs.Talk.{Talker, TalksOnce, IsWrittenIf, IsRecordedTalk, IsRecordedPart, Rules}
+use Rattle.album_talk.specs.Talk.{Talker, TalksOnce, Ends, IsWrittenIf, IsRecordedBy, IsRecordedTalk, IsRecordedPart, Records, Rules}
 use Rattle.album_talk.specs.Talk.IsRecordedTalk.{Begins, Answers}
+use Rattle.album_talk.specs.declared.endings.Ending.{Ending}
 use Rattle.album_judge.specs.Writes.{Writes}
 
 -- what holds after either outcome holds
@@ -15,7 +15,7 @@ pub by_outcome : {T E P Q X : Type 0} (r : Result T E) → (P → X) → (Q → 
 by_outcome (Ok t) f g p q = f p
 by_outcome (Err e) f g p q = g q
 
-module _ (limit : ℕ) (policy : Policy) (rules : Rules) (Recorded : SessionState → Type 0) where
+module _ (limit : ℕ) (policy : Policy) (rules : Rules) (Recorded : Records) where
   abbrev Talk : Talker → Talker → List ℕ → Type 0
   Talk old new text = IsRecordedTalk limit policy rules Recorded old new text
 
@@ -33,10 +33,23 @@ module _ (limit : ℕ) (policy : Policy) (rules : Rules) (Recorded : SessionStat
   joined_part old between x y g h =
       (h.0, (h.1.0, subst (Talk old h.1.0) (sym (append_assoc x y h.0)) (joined old between h.1.0 x (y ++ h.0) g h.1.1)))
 
+  -- with how its request has ended
+  pub recorded_by : (old new : Talker) (line : Line) (text : List ℕ) (ending : Option Ending)
+      → Ends rules old line text ending → (text ≢ [] → Recorded new.session ending)
+      → text ≢ [] → IsRecordedBy rules Recorded old line new text
+  recorded_by old new line text ending ends there some = (ending, ends, there some)
+
+  -- the same of so much of it
+  pub written_by : (old new : Talker) (line : Line) (text : List ℕ) (ending : Option Ending) (a b : Option (List ℕ))
+      → Ends rules old line text ending → Writes (IsWrittenIf text (Recorded new.session ending)) a b
+      → Writes (IsWrittenIf text (IsRecordedBy rules Recorded old line new text)) a b
+  written_by old new line text ending a b ends h =
+      (h.0, (h.1.0, λ some. (ending, ends, h.1.1 some)), h.2)
+
   -- so much of one more answer
   one_part : (old between new : Talker) (line : Line) (x answer y : List ℕ) → Talk old between x
       → TalksOnce limit policy rules between line new answer
-      → IsWrittenIf answer (Recorded new.session) y → Part old (x ++ y)
+      → IsWrittenIf answer (IsRecordedBy rules Recorded between line new answer) y → Part old (x ++ y)
   one_part old between new line x answer [] g once h = ([], (between, subst (Talk old between) (sym all) g))
     where
       all : (x ++ []) ++ [] ≡ x
@@ -57,13 +70,13 @@ module _ (limit : ℕ) (policy : Policy) (rules : Rules) (Recorded : SessionStat
 
   pub recorded_next : (old between new : Talker) (line : Line) (answer : List ℕ) (a b c : Option (List ℕ))
       → Writes (Talk old between) a b → TalksOnce limit policy rules between line new answer
-      → Appends b c answer → (answer ≢ [] → Recorded new.session) → Writes (Talk old new) a c
+      → Appends b c answer → (answer ≢ [] → IsRecordedBy rules Recorded between line new answer) → Writes (Talk old new) a c
   recorded_next old between new line answer a b c g once more there =
       (g.0 ++ answer, Answers between new line g.0 answer g.1 once there, Appends-trans a b c g.0 answer g.2 more)
 
   pub recorded_cut : (old between new : Talker) (line : Line) (answer : List ℕ) (a b c : Option (List ℕ))
       → Writes (Talk old between) a b → TalksOnce limit policy rules between line new answer
-      → Writes (IsWrittenIf answer (Recorded new.session)) b c → Writes (Part old) a c
+      → Writes (IsWrittenIf answer (IsRecordedBy rules Recorded between line new answer)) b c → Writes (Part old) a c
   recorded_cut old between new line answer a b c g once h =
       (g.0 ++ h.0, one_part old between new line g.0 answer h.0 g.1 once h.1, Appends-trans a b c g.0 h.0 g.2 h.2)
 

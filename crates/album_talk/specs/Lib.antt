@@ -1,2 +1,3 @@
 pub mod Admins
+pub mod Endings
 pub mod Talk

@@ -32,6 +32,8 @@ use Rattle.album_wire.specs.declared.talk_line.TalkLine.TheVariants as line
 use Rattle.album_wire.specs.WholeOpening.{text_of_opening}
 use Rattle.album_turns.specs.Left.{IsFoundBy, IsUnleft}
 use Rattle.album_talk.specs.Admins.{permitted}
+use Rattle.album_talk.specs.Endings.{ending_of}
+use Rattle.album_talk.specs.declared.endings.Ending.{Ending}
 use Rattle.album_talk.specs.declared.admins.Admins.{Admins}
 use Rattle.album_talk.specs.declared.epoch.Epoch.{Epoch}
 use Rattle.album_judge.specs.Writes.{IsPrefixOf}
@@ -254,26 +256,65 @@ abbrev pub IsTalk : ℕ → Policy → Rules → SessionState → SessionState �
 IsTalk limit policy rules old new lines text =
     (who : Option Principal) × Talks limit policy rules (stranger old) lines (record { who = who; session = new }) text
 
+-- ---- how a request has ended
+
+-- what a request has ended with, whose answer is this text
+abbrev pub EndsAsk : Stamps → (client : ℕ) → Ask → List ℕ → Option Ending → Type 0
+EndsAsk stamps client ask text ending =
+    (answer : Result Answer Refusal)
+    × (text ≡ asked_text stamps client answer)
+    × (ending ≡ Some (ending_of ask answer))
+
+-- no other line is a request that ends
+abbrev pub EndsSaid : Stamps → (client : ℕ) → Result TalkLine Refusal → List ℕ → Option Ending → Type 0
+EndsSaid stamps client (Ok (line.Ask ask)) text ending = EndsAsk stamps client ask text ending
+EndsSaid stamps client (Ok (line.Pending part)) text ending = ending ≡ None
+EndsSaid stamps client (Ok (line.Sweep part stamp)) text ending = ending ≡ None
+EndsSaid stamps client (Ok line.Dump) text ending = ending ≡ None
+EndsSaid stamps client (Ok (line.Trim part item)) text ending = ending ≡ None
+EndsSaid stamps client (Err why) text ending = ending ≡ None
+
+abbrev pub EndsHeard : Rules → Option Principal → (client : ℕ) → Line → List ℕ → Option Ending → Type 0
+EndsHeard rules None client line text ending = ending ≡ None
+EndsHeard rules (Some who) client line text ending =
+    EndsSaid rules.epoch.opening.stamps client (talk_line_heard rules.admins who line) text ending
+    ⊎ ((ending ≡ None) × (text ≡ refusal_line OutOfMemory))
+
+-- what the line of this talker has ended with, whose answer is this text; where memory ran out before it was read,
+-- nothing has
+abbrev pub Ends : Rules → Talker → Line → List ℕ → Option Ending → Type 0
+Ends rules old line text ending =
+    MatchBool (is_blank line) (ending ≡ None) (EndsHeard rules old.who old.session.client line text ending)
+
 -- ---- what is recorded before it is answered
 
 -- So much of a text is written. Where any byte of it is, this holds.
 abbrev pub IsWrittenIf : List ℕ → Type 0 → List ℕ → Type 0
 IsWrittenIf whole Holds text = IsPrefixOf (λ all. all ≡ whole) text × (text ≢ [] → Holds)
 
+-- what is recorded: what a session had noted in a state, and how its request has ended
+abbrev pub Records : Type 1
+Records = SessionState → Option Ending → Type 0
+
+-- What the session had noted by this text is recorded, and how the request of the line has ended whose answer it is.
+abbrev pub IsRecordedBy : Rules → Records → Talker → Line → Talker → List ℕ → Type 0
+IsRecordedBy rules Recorded old line new text =
+    (ending : Option Ending) × Ends rules old line text ending × Recorded new.session ending
+
 -- A talk of some lines, from the first of these talkers to the other, and its text. For each answer that has a byte,
--- what the session had noted by then is recorded.
+-- what the session had noted by then is recorded, and how its request has ended.
 pub data IsRecordedTalk
-    (limit : ℕ) (policy : Policy) (rules : Rules) (Recorded : SessionState → Type 0) (old : Talker)
+    (limit : ℕ) (policy : Policy) (rules : Rules) (Recorded : Records) (old : Talker)
     : Talker → List ℕ → Type 0 where
   Begins : IsRecordedTalk limit policy rules Recorded old old []
   Answers :
       (between new : Talker) (line : Line) (text answer : List ℕ)
       → IsRecordedTalk limit policy rules Recorded old between text
       → TalksOnce limit policy rules between line new answer
-      → (answer ≢ [] → Recorded new.session)
+      → (answer ≢ [] → IsRecordedBy rules Recorded between line new answer)
       → IsRecordedTalk limit policy rules Recorded old new (text ++ answer)
 
 -- a prefix of the text of a recorded talk
-abbrev pub IsRecordedPart : ℕ → Policy → Rules → (SessionState → Type 0) → Talker → List ℕ → Type 0
+abbrev pub IsRecordedPart : ℕ → Policy → Rules → Records → Talker → List ℕ → Type 0
 IsRecordedPart limit policy rules Recorded old text =
     IsPrefixOf (λ all. (new : Talker) × IsRecordedTalk limit policy rules Recorded old new all) text

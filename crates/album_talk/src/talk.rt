@@ -9,6 +9,7 @@ ghost use Rattle.album_judge.specs.Writes.{HasRead, Writes, Exchanges, IsPrefixO
 
 use crate::admins::Admins;
 use crate::answers::answer;
+use crate::endings::Ending;
 use crate::epoch::Epoch;
 use crate::journal::{Journal, NoJournal};
 use album_eval::Principal;
@@ -20,6 +21,9 @@ use std::alloc::Global;
 use std::io::{Read, Write};
 use std::sync::Wait;
 use std::time;
+
+/// What the reader of a line has taken is kept for the next one where the line had so many bytes at most.
+const KEPT: usize = 8_192;
 
 /// Answers each line that is read by one line, in order, by what the session answers, before the next line is looked
 /// into; a line of spaces, tabs and carriage returns alone is skipped. The first line has to say who talks.
@@ -85,8 +89,8 @@ pub fn converse<J: ServiceNames, T: Wait + time::Clock, R: Read, W: Write>(
 
 /// The same, where who talks may only ask, unless it is one of the admins; first values are shown with the stamps of
 /// the epoch's opening. It may be said already who talks: so a talk goes on in another session, with another reader.
-/// The journal is settled before each answer: what was noted is recorded by then, and where it can't be, no byte of
-/// the answer is written.
+/// The journal is settled before each answer: what was noted is recorded by then, and how the request has ended. Where
+/// that can't be, no byte of the answer is written.
 ///
 /// # Errors
 ///
@@ -132,7 +136,8 @@ pub fn talk_on<J: ServiceNames, T: Wait + time::Clock, R: Read, W: Write, A: Jou
         (record { who = who.new; session = session.new }) text))
         (R.remaining reader.old) (R.remaining reader.new) (W.contents writer.old) (W.contents writer.new) }
 
-    // What was noted for an answer is recorded before any byte of it is written, whether there is a fault or not.
+    // What was noted for an answer is recorded before any byte of it is written, and how its request has ended, whether
+    // there is a fault or not.
     ensures recorded { Writes (IsRecordedPart J.terms.limit J.policy (rules_of admins.now epoch.now)
         (A.recorded journal.now) (record { who = who.old; session = session.old }))
         (W.contents writer.old) (W.contents writer.new) }
@@ -269,8 +274,19 @@ fn answer_lines<J: ServiceNames, T: Wait + time::Clock, W: Write, A: Journal>(
 {
     session.has_granted_writes();
     for line in lines {
-        let text = answer(rt, alloc, scratch, session, admins, epoch, who, line)?;
-        write_settled(rt, journal, session, who.as_ref(), writer, &text)?;
+        let reply = answer(
+            rt, alloc, scratch, session, admins, epoch, journal, who, line,
+        )?;
+        write_settled(
+            rt,
+            journal,
+            session,
+            who.as_ref(),
+            reply.ending,
+            writer,
+            &reply.text,
+        )?;
+        give_back(alloc, scratch, line);
     }
     Ok(())
 }
@@ -282,20 +298,31 @@ fn write_settled<J: ServiceNames, T: Wait, A: Journal, W: Write>(
     journal: &A,
     session: &Session<J>,
     who: Option<&Principal>,
+    ending: Option<Ending>,
     writer: &mut W,
     text: &[u8],
 ) -> Result<(), Fault>
     ensures ok { OnOk result (Appends (W.contents writer.old) (W.contents writer.new) text.now) }
     ensures err { OnErr result
         (Writes (IsCutShort (λ whole. whole ≡ text.now)) (W.contents writer.old) (W.contents writer.new)) }
-    ensures recorded { OnOk result (text.now ≢ [] → A.recorded journal.now session.now) }
-    ensures part { OnErr result (Writes (IsWrittenIf text.now (A.recorded journal.now session.now))
+    ensures recorded { OnOk result (text.now ≢ [] → A.recorded journal.now session.now ending) }
+    ensures part { OnErr result (Writes (IsWrittenIf text.now (A.recorded journal.now session.now ending))
         (W.contents writer.old) (W.contents writer.new)) }
     ensures fault { IfErr result (λ fault. fault ≡ Fault.Writing) }
 {
     if text.is_empty() {
         return Ok(());
     }
-    journal.settle(rt, session, who)?;
+    journal.settle(rt, session, who, ending)?;
     write_text(writer, text)
+}
+
+/// Gives back the memory that the reader of a long line has taken: one connection may send a long line, and then be
+/// silent for hours.
+fn give_back(alloc: Global, scratch: &mut Scratch, line: &LineIn) {
+    if let LineIn::Text(bytes) = line
+        && bytes.len() > KEPT
+    {
+        *scratch = Scratch::new(alloc);
+    }
 }
