@@ -50,22 +50,22 @@ prepared_once ms legal = along (λ (ns : List Mark). (t : ℕ) (ws : List Row) (
 -- ---- what is found
 
 -- the mark prepares it, throughout
-record IsOf (hs : List (List Mark)) (i : ℕ) (m : Mark) (kept : Option Kept) : Type 0 where
-  t : ℕ
-  v : Value
-  ws : List Row
-  is : List ℕ
-  mark : m ≡ Prepared t ws is
-  carried : is_throughout hs t is ≡ true
-  value : value_in ws i ≡ Some v
-  kept_is : kept ≡ Some (t, v)
-  some : 0 < t
+pub record IsOf (hs : List (List Mark)) (i : ℕ) (m : Mark) (kept : Option Kept) : Type 0 where
+  pub t : ℕ
+  pub v : Value
+  pub ws : List Row
+  pub is : List ℕ
+  pub mark : m ≡ Prepared t ws is
+  pub carried : is_throughout hs t is ≡ true
+  pub value : value_in ws i ≡ Some v
+  pub kept_is : kept ≡ Some (t, v)
+  pub some : 0 < t
 
 -- one of the marks does
-record IsFrom (hs : List (List Mark)) (i : ℕ) (ms : List Mark) (kept : Option Kept) : Type 0 where
-  m : Mark
-  listed : Contains ms m
-  of : IsOf hs i m kept
+pub record IsFrom (hs : List (List Mark)) (i : ℕ) (ms : List Mark) (kept : Option Kept) : Type 0 where
+  pub m : Mark
+  pub listed : Contains ms m
+  pub of : IsOf hs i m kept
 
 module _ (hs : List (List Mark)) (i : ℕ) where
   step_of : (k : Option Kept) (m : Mark) → (raised_by hs i k m ≡ k) ⊎ IsOf hs i m (raised_by hs i k m)
@@ -114,7 +114,7 @@ module _ (hs : List (List Mark)) (i : ℕ) where
   newest_rises k [] = omega arith
   newest_rises k (m ∷ ms) = omega (arith, step_rises k m, newest_rises (raised_by hs i k m) ms)
 
-  newest_above : (k : Option Kept) (ms : List Mark) (t : ℕ) (ws : List Row) (is : List ℕ) (v : Value) → Contains ms (Prepared t ws is)
+  pub newest_above : (k : Option Kept) (ms : List Mark) (t : ℕ) (ws : List Row) (is : List ℕ) (v : Value) → Contains ms (Prepared t ws is)
       → is_throughout hs t is ≡ true → value_in ws i ≡ Some v → t ≤ stamp_kept (newest hs i k ms)
   newest_above k [] t ws is v n e f = absurd (omega (arith, n.1))
   newest_above k (m ∷ ms) t ws is v (zero, l, at) e f =
@@ -122,7 +122,7 @@ module _ (hs : List (List Mark)) (i : ℕ) where
       omega (arith, here, newest_rises (raised_by hs i k m) ms)
   newest_above k (m ∷ ms) t ws is v (suc j, l, at) e f = newest_above (raised_by hs i k m) ms t ws is v (j, omega arith, at) e f
 
-  newest_from : (k : Option Kept) (ms : List Mark) → (newest hs i k ms ≡ k) ⊎ IsFrom hs i ms (newest hs i k ms)
+  pub newest_from : (k : Option Kept) (ms : List Mark) → (newest hs i k ms ≡ k) ⊎ IsFrom hs i ms (newest hs i k ms)
   newest_from k [] = inl refl
   newest_from k (m ∷ ms) = ⊎_elim
       (λ (e : newest hs i (raised_by hs i k m) ms ≡ raised_by hs i k m). ⊎_elim
@@ -142,7 +142,7 @@ module _ (c : Cut) (s : IsLeft c) (i : ℕ) where
   is_carried_so t ws is n =
       throughout_is t is ∙ sym (carried_by c t is (items_of_named c t ws is (named_left c s (place_of c.parts i) t ws is n)))
 
-  written_so : (t : ℕ) (ws : List Row) (is : List ℕ) → Contains (prefix_for c i) (Prepared t ws is) → is_carried c t ≡ true → written_value c i t ≡ value_in ws i
+  pub written_so : (t : ℕ) (ws : List Row) (is : List ℕ) → Contains (prefix_for c i) (Prepared t ws is) → is_carried c t ≡ true → written_value c i t ≡ value_in ws i
   written_so t ws is n e =
       ap (λ (b : Bool). if b then None else value_in (writes_at (prefix_for c i) t) i) (undiscarded_left c (place_of c.parts i) t s (throughout c t e))
       ∙ ap (λ (o : Option Mark). value_in (mark_writes o) i) (prepared_once (prefix_for c i) (legal_left c s (place_of c.parts i)) t ws is n)
@@ -150,7 +150,7 @@ module _ (c : Cut) (s : IsLeft c) (i : ℕ) where
   abbrev pub found : Option Kept
   found = newest c.prefixes i (first_kept c.opening i) (prefix_for c i)
 
-  zero_first : (o : Option Value) → stamp_kept (option_map (λ v. (0, v)) o) ≡ 0
+  pub zero_first : (o : Option Value) → stamp_kept (option_map (λ v. (0, v)) o) ≡ 0
   zero_first None = refl
   zero_first (Some v) = refl
 

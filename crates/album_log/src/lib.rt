@@ -27,8 +27,6 @@ mod zeros;
 // What is read back.
 mod reader;
 mod seals;
-#[cfg(test)]
-mod tests;
 
 pub use errors::LogError;
 pub use log::Log;

@@ -1,5 +1,5 @@
-//! Tests of what lies below partitions and lines: stamps, lists, verdicts, items and versions; and of
-//! what an epoch leaves of them.
+//! Tests of what lies below partitions and lines: the log in a file, stamps, lists, verdicts, items and versions; and
+//! of what an epoch leaves of them.
 //!
 //! Read `lists` first, then `items`: they make values for the others.
 #![tactic(auto)]
@@ -12,6 +12,8 @@ mod folds;
 mod items;
 #[cfg(test)]
 mod lists;
+#[cfg(test)]
+mod logs;
 #[cfg(test)]
 mod openings;
 #[cfg(test)]

@@ -142,8 +142,8 @@ fn taken_in<J: Books>(alloc: Global, blanks: Blanks) -> Result<([Kept; 3], usize
     }
 }
 
-fn kept(record: &Record) -> Kept {
-    let Record { client, note } = *record;
+fn kept(taken: &Record) -> Kept {
+    let Record { client, note } = *taken;
     (client.number(), (note.alarm, note.success))
 }
 

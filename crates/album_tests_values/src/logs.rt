@@ -1,4 +1,5 @@
-use crate::{Log, LogError, is_whole_text, read_text, seal, unseal};
+//! The log: groups that are read back, crashes at each call, and seals (docs/PROTOCOL.md, "What a service keeps").
+use album_log::{Log, LogError, is_whole_text, read_text, seal, unseal};
 use sqlite_disk::{Crash, Disk, Fuse, Memory};
 use std::alloc::Global;
 use std::process::Abort;
