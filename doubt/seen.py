@@ -1,9 +1,8 @@
 """What the goals of a function can see: the definitions and types of its crate and of those below, the lemmas, and the
-contracts of the functions that it calls. They see no body but its own, and no contract of a function that it doesn't name.
-So a doubt has to be tried again only where some of that changes: what a checksum of `Seen` says."""
+contracts of the functions that it calls. They see no body but its own, and no contract of a function that it doesn't
+name. So a doubt has to be tried again only where some of that changes: what a checksum of `Seen` says."""
 import functools
 import hashlib
-import pathlib
 import re
 from typing import NamedTuple
 
@@ -14,7 +13,8 @@ BLOCK = re.compile(r"(pub )?(impl|trait)\b")
 IMPORT = re.compile(r"(?m)^ *(?:ghost )?use ([^{};]+)(?:\{([^{}]*)\})?;\n")
 OF_ONE_FUNCTION = ("Answers.antt", "Invariants.antt")  # what only proves the function after which its folder is named
 # A `Drop` without a contract, by hand or derived.
-DROP = re.compile(r"(?m)^impl\b[^{;]* Drop for [^{;]*\{\n    fn drop\(self\) \{\n\}$|\bDrop, |, Drop\b|^#\[derive\(Drop\)\]$")
+DROP = re.compile(r"(?m)^impl\b[^{;]* Drop for [^{;]*\{\n    fn drop\(self\) \{\n\}$|"
+                  r"\bDrop, |, Drop\b|^#\[derive\(Drop\)\]$")
 MODULE = re.compile(r"(?m)^(?:pub(?:\([^)]*\))? )?mod \w+;?\n?")  # (what it has is seen in its own file)
 PASSED_ON = re.compile(r"(?m)^pub use ([^{};]+)(?:\{([^{}]*)\})?;\n?")
 LEMMAS = re.compile(r"Rattle\.album_\w+\.proofs(?:\.\w+)+")
@@ -32,8 +32,8 @@ class Function(NamedTuple):
 
 
 def parts_of(text):
-    """Takes a formatted source apart: its functions, and the texts between them. A function that has no body on lines of
-    its own is part of the text."""
+    """Takes a formatted source apart: its functions, and the texts between them. A function that has no body on lines
+    of its own is part of the text."""
     lines, at, text, block = text.split("\n"), 0, [], ""
     while at < len(lines):
         block = lines[at] if BLOCK.match(lines[at]) else block
@@ -59,7 +59,8 @@ def parts_of(text):
 def with_imports_used(text):
     """The source without the names that it imports and does not use."""
     rest = IMPORT.sub("", text)
-    names = {start + name.strip() if names else start for start, names in IMPORT.findall(text) for name in names.split(",")}
+    names = {start + name.strip() if names else start
+             for start, names in IMPORT.findall(text) for name in names.split(",")}
     words = set(WORD.findall(rest))
     called = {name: re.split(r"[.:\s]", name.strip("◌"))[-1] for name in names}
     used = (name for name in names if called[name] in (words if WORD.fullmatch(called[name]) else rest))
@@ -116,7 +117,8 @@ def module_of(path):
 def lemmas_of_others():
     """The files of lemmas that another crate names, and those that these name."""
     crates = sorted(path.name for path in (ROOT / "crates").iterdir())
-    named = {crate: {name for part in PARTS for path in files_of(crate, part) for name in LEMMAS.findall(path.read_text())}
+    named = {crate: {name for part in PARTS for path in files_of(crate, part)
+                     for name in LEMMAS.findall(path.read_text())}
              for crate in crates}
     lemmas = {module_of(path): path for crate in crates for path in files_of(crate, "proofs")}
     found = {name for crate in crates for name in named[crate] if name.split(".")[1] != crate}

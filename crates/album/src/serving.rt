@@ -292,7 +292,9 @@ fn refuse_admins(rt: &impl Eprint, why: Refusal) -> ExitCode {
     if matches!(why, Refusal::OutOfMemory) {
         return status(rt, Err(Fault::Memory));
     }
-    let _ = eprintln!(rt; "error: invalid value for '--admin <WHO>': {why}");
+    let _ = eprintln!(rt;
+        "error: invalid value for '--admin <WHO>': {why}; a principal is name@users or ANONYMOUS@"
+    );
     ExitCode::from(2)
 }
 

@@ -4,8 +4,9 @@
 use crate::asking::{ask_command, ask_service};
 use crate::checking::check_data_command;
 use crate::dumping::{dump_command, dump_service};
-use crate::explaining::{explain_command, explain_lines, flags_command, mask_command, print_bits};
+use crate::explaining::{explain_command, explain_lines};
 use crate::judging::{judge_command, judge_lines};
+use crate::naming::{flags_command, mask_command, print_bits};
 use crate::replaying::{replay_command, replay_lines};
 use crate::running::{status, with_subcommand};
 use crate::serving::serve_command;

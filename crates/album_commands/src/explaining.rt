@@ -1,15 +1,12 @@
-//! The subcommands that explain: `explain` with the lines that are, and `mask` and `flags`, which give names for
-//! numbers and back.
+//! The subcommand `explain`, with the lines that are.
 
 use crate::running::{TURNS, open, status, with_subcommand};
 use crate::texts::{
-    EVENT_ABOUT, EXPLAIN_ABOUT, EXPLAIN_HELP, FLAGS_ABOUT, JUDGE_ABOUT, LINES_HELP, MASK_ABOUT,
-    NAMES_HELP, OPENING_ABOUT, TALK_ABOUT,
+    EVENT_ABOUT, EXPLAIN_ABOUT, EXPLAIN_HELP, JUDGE_ABOUT, LINES_HELP, OPENING_ABOUT, TALK_ABOUT,
 };
-use album_explain::{JudgeLines, explain, write_flags, write_mask};
+use album_explain::{JudgeLines, explain};
 use album_explain_store::{EventLines, TalkLines, explain_script};
 use album_judge::Fault;
-use album_stamps::Refusal;
 use clap::{Arg, ArgMatches, Command};
 use std::alloc::{AllocError, Global};
 use std::io::{Read, Write};
@@ -48,38 +45,6 @@ fn lines_command<'a>(
         .about(about)
         .after_help(help)
         .arg(files)
-}
-
-/// The subcommand `mask`, with its arguments.
-///
-/// # Errors
-///
-/// `AllocError`, where there is no memory for it.
-pub(crate) fn mask_command<'a>(alloc: Global) -> Result<Command<'a>, AllocError> {
-    bits_command(alloc, "mask", MASK_ABOUT)
-}
-
-/// The subcommand `flags`, with its arguments.
-///
-/// # Errors
-///
-/// `AllocError`, where there is no memory for it.
-pub(crate) fn flags_command<'a>(alloc: Global) -> Result<Command<'a>, AllocError> {
-    bits_command(alloc, "flags", FLAGS_ABOUT)
-}
-
-fn bits_command<'a>(
-    alloc: Global,
-    name: &'static str,
-    about: &'static str,
-) -> Result<Command<'a>, AllocError> {
-    let bits = Arg::new(alloc, "NAMES|NUMBER")
-        .help("Names with commas between them, or a number")
-        .required(true);
-    Command::new(alloc, name)
-        .about(about)
-        .after_help(NAMES_HELP)
-        .arg(bits)
 }
 
 /// Explains the lines of each file that is named, or else those of the reader. The status is 1 where one is refused.
@@ -137,46 +102,4 @@ fn explain_each<R: Read, W: Write>(
         "talk" => Ok(explain(alloc, reader, writer, TalkLines::Stranger, TURNS)?.has_refused),
         _ => Ok(explain(alloc, reader, writer, JudgeLines, TURNS)?.has_refused),
     }
-}
-
-/// All bits of a mask, and of flags, in numbers.
-const ALL_BITS: u32 = 2_032_127;
-
-const ALL_FLAGS: u32 = 127;
-
-/// Prints what the names, or the number, of `mask` or `flags` are.
-pub(crate) fn print_bits<T: Eprint, W: Write>(
-    rt: &T,
-    alloc: Global,
-    writer: &mut W,
-    matches: &ArgMatches<'_>,
-    command: &str,
-) -> ExitCode {
-    let named = matches.subcommand_matches(command);
-    let word = named.and_then(|m| m.get_str("NAMES|NUMBER")).unwrap_or("");
-    let line = match command {
-        "mask" => write_mask(alloc, word),
-        _ => write_flags(alloc, word),
-    };
-    match line {
-        Ok(line) => status(rt, written(writer, &line)),
-        Err(Refusal::OutOfMemory) => status(rt, Err(Fault::Memory)),
-        Err(why) => {
-            let all = if command == "mask" {
-                ALL_BITS
-            } else {
-                ALL_FLAGS
-            };
-            let _ = eprintln!(rt; "error: invalid value '{word}' for '<NAMES|NUMBER>': {why}");
-            let _ = eprintln!(rt;
-                "`album {command} {all}` prints all names; commas stand between names"
-            );
-            ExitCode::from(2)
-        }
-    }
-}
-
-fn written<W: Write>(writer: &mut W, line: &[u8]) -> Result<(), Fault> {
-    writer.write_all(line).map_err(|_| Fault::Writing)?;
-    writer.flush().map_err(|_| Fault::Writing)
 }

@@ -14,6 +14,7 @@ mod checking;
 mod dumping;
 mod explaining;
 mod judging;
+mod naming;
 mod replaying;
 mod serving;
 

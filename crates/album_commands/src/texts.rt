@@ -1,7 +1,7 @@
 //! What the program and its subcommands say of themselves, and of their lines.
 
 pub(crate) const ABOUT: &str =
-    "A photo album store that judges by NFSv4 access lists, with every promise proved";
+    "A photo album store that judges by NFSv4 access lists, with proved decisions";
 
 pub(crate) const JUDGE_ABOUT: &str =
     "Answers each line of standard input, a question about an access list, by one line";

@@ -72,6 +72,11 @@ IsReply number (Ok taken) is_refused text =
     (is_refused ≡ false) × (text ≡ line_text (taken_json number taken))
 IsReply number (Err refusal) is_refused text = (is_refused ≡ true) × IsRefused number refusal text
 
+-- the same, or that memory ran out on it
+abbrev pub IsReplyIfRoom : ℕ → Result Taken Refusal → Bool → List ℕ → Type 0
+IsReplyIfRoom number reading is_refused text =
+    IsReply number reading is_refused text ⊎ IsReply number (Err OutOfMemory) is_refused text
+
 -- the outcome of a line: what it is, or its refusal; and its explainer's state then
 pub record Step (S : Type 0) : Type 0 where
   pub reading : Result Taken Refusal

@@ -15,7 +15,8 @@ mod explanations;
 // Where a line is refused.
 mod places;
 
-// The explainers of each kind of lines.
+// The explainers of each kind of lines, and of an ask in either.
+mod asks;
 mod events;
 mod openings;
 mod scripts;

@@ -8,7 +8,7 @@ ghost use Rattle.album_explain_store.specs.Readings.{read_by};
 ghost use Rattle.album_explain_store.specs.Explanations.{IsReply, ExplainsBy};
 ghost use Rattle.album_explain_store.specs.Openings.{Unopened, BeingOpened, stage_of, has_begun, taken_opening, header_said, header_reading, opened_by, first_step, later_step, begin_reading, ExplainsScriptLine};
 
-use crate::events::event_reading;
+use crate::events::explain_event;
 use crate::explanations::{Kind, Lines, Taken, explain_reading, explain_refused, explain_taken};
 use crate::places::opened::bad_opening;
 use crate::places::tables::Table;
@@ -101,8 +101,7 @@ fn explain_script_line(
         OpeningLines::Unopened => explain_first(alloc, scratch, line, number),
         OpeningLines::BeingOpened(so_far) => explain_later(alloc, scratch, line, number, so_far),
         OpeningLines::Begun => {
-            let reading = event_reading(alloc, scratch, line);
-            let explanation = explain_reading(alloc, scratch, line, number, Table::Event, reading)?;
+            let explanation = explain_event(alloc, scratch, line, number)?;
             Ok((explanation, OpeningLines::Begun))
         }
     }

@@ -1,6 +1,7 @@
 //! Where a refused line fails its first test: at a byte, where it is no JSON, or else at a part of its object. The
 //! forms of the whole line are tested before any value, as its readers do.
 
+pub(crate) mod checked;
 mod forms;
 pub(crate) mod opened;
 pub(crate) mod tables;

@@ -2,11 +2,13 @@
 ghost use Rattle.std.specs.Prelude.{◌≡◌};
 ghost use Rattle.album_stamps.specs.Outcome.{Gives};
 ghost use Rattle.album_lines.specs.Lines.{said};
-ghost use Rattle.album_explain_store.specs.Readings.{hello_reading, talk_reading, kind_of_talk};
-ghost use Rattle.album_explain_store.specs.Steps.{known_by};
+ghost use Rattle.album_wire.specs.TalkLine.{hello_line_of, talk_line_of};
+ghost use Rattle.album_explain_store.specs.Readings.{read_by, kind_of_talk};
 
-use crate::explanations::{Kind, Lines, Taken, explain_reading};
+use crate::asks::explain_ask;
+use crate::explanations::{Kind, Lines, Taken, explain_reading, explain_taken};
 use crate::places::tables::Table;
+use album_eval::Principal;
 use album_explain::Explainer;
 use album_lines::LineIn;
 use album_stamps::Refusal;
@@ -15,11 +17,11 @@ use json::Scratch;
 use std::alloc::Global;
 
 /// Explains the lines of a connection.
-#[derive(Clone, Copy, Debug)]
+#[derive(Debug, Drop)]
 pub enum TalkLines {
     /// It isn't said yet who talks.
     Stranger,
-    Known,
+    Known(Principal),
 }
 
 impl Explainer for TalkLines {
@@ -37,51 +39,50 @@ impl Explainer for TalkLines {
         number: u64,
     ) -> Result<(Vec<u8>, bool), Refusal> {
         match self {
-            TalkLines::Stranger => {
-                let reading = hello_reading(alloc, scratch, line);
-                *self = known_by(&reading);
-                explain_reading(alloc, scratch, line, number, Table::Hello, reading)
-            }
-            TalkLines::Known => {
-                let reading = talk_reading(alloc, scratch, line);
-                explain_reading(alloc, scratch, line, number, Table::Talk, reading)
-            }
+            TalkLines::Stranger => match hello_in(alloc, scratch, line) {
+                Ok(who) => {
+                    *self = TalkLines::Known(who);
+                    explain_taken(alloc, number, taken_as(Kind::Who))
+                }
+                Err(refusal) => {
+                    explain_reading(alloc, scratch, line, number, Table::Hello, Err(refusal))
+                }
+            },
+            TalkLines::Known(who) => match line_in(alloc, scratch, line) {
+                Ok(TalkLine::Ask(ask)) => explain_ask(alloc, number, Lines::Talk, &ask, who),
+                Ok(said) => explain_taken(alloc, number, taken_as(kind_of_talk(&said))),
+                Err(refusal) => {
+                    explain_reading(alloc, scratch, line, number, Table::Talk, Err(refusal))
+                }
+            },
         }
     }
 
     ghost goes_on = { λ old number line. out_of_memory_explanation (talk_step old line) old number };
 }
 
-/// Who talks is known by a line that says so, once it is taken.
-fn known_by(reading: &Result<Taken, Refusal>) -> TalkLines
-    ensures { result ≡ known_by reading.now }
+fn taken_as(kind: Kind) -> Taken
+    ensures lines { result.lines ≡ Lines.Talk }
+    ensures kind { result.kind ≡ kind }
 {
-    match reading {
-        Ok(_) => TalkLines::Known,
-        Err(_) => TalkLines::Stranger,
+    Taken {
+        lines: Lines::Talk,
+        kind,
     }
 }
 
-/// What the first line is.
-fn hello_reading(alloc: Global, scratch: &mut Scratch, line: &LineIn) -> Result<Taken, Refusal>
-    ensures { Gives (λ taken. taken) result (hello_reading (said line.now)) }
+/// Who the first line says.
+fn hello_in(alloc: Global, scratch: &mut Scratch, line: &LineIn) -> Result<Principal, Refusal>
+    ensures { Gives (λ who. who) result (read_by hello_line_of (said line.now)) }
 {
-    let _who = read_hello(alloc, scratch, line.bytes()?)?;
-    Ok(Taken {
-        lines: Lines::Talk,
-        kind: Kind::Who,
-    })
+    read_hello(alloc, scratch, line.bytes()?)
 }
 
-/// What a later line is.
-fn talk_reading(alloc: Global, scratch: &mut Scratch, line: &LineIn) -> Result<Taken, Refusal>
-    ensures { Gives (λ taken. taken) result (talk_reading (said line.now)) }
+/// What a later line says.
+fn line_in(alloc: Global, scratch: &mut Scratch, line: &LineIn) -> Result<TalkLine, Refusal>
+    ensures { Gives (λ said. said) result (read_by talk_line_of (said line.now)) }
 {
-    let said = read_talk(alloc, scratch, line.bytes()?)?;
-    Ok(Taken {
-        lines: Lines::Talk,
-        kind: kind_of_talk(&said),
-    })
+    read_talk(alloc, scratch, line.bytes()?)
 }
 
 fn kind_of_talk(line: &TalkLine) -> Kind

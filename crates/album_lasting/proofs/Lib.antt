@@ -4,3 +4,4 @@ pub mod MadeLemmas
 pub mod StayLemmas
 pub mod AddLemmas
 pub mod SettingLemmas
+pub mod CrashLemmas

@@ -78,7 +78,7 @@ pub version_high : (c : Cut) (i t : ℕ) (v : Value) → IsSound c → (above : 
 version_high c i t v s above e = let a = version_announced c i t v s e in above.above t a.0 a.1
 
 -- what an earlier cut shows of a committed stamp, a later one does
-written_more : (n c : Cut) (i t : ℕ) (v : Value) → IsSound c → Extends n c → IsCommitted n t → written_value n i t ≡ Some v → written_value c i t ≡ Some v
+pub written_more : (n c : Cut) (i t : ℕ) (v : Value) → IsSound c → Extends n c → IsCommitted n t → written_value n i t ≡ Some v → written_value c i t ≡ Some v
 written_more n c i t v s x done e =
     let p = prefix_for_more n c x i in
     let there = any_more (commits t) (prefix_at n done.0) (prefix_at c done.0) (x.prefixes done.0) done.1 in
