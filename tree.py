@@ -30,7 +30,8 @@ def wanted(rows, *names):
 def without_comments(path):
     """What is in this file but for empty lines and for those that are a comment: what a proof may rest on."""
     sign = {".rt": b"//", ".antt": b"--"}[path.suffix]
-    return b"\n".join(line for line in path.read_bytes().splitlines() if line.strip() and not line.strip().startswith(sign))
+    lines = path.read_bytes().splitlines()
+    return b"\n".join(line for line in lines if line.strip() and not line.strip().startswith(sign))
 
 
 @functools.cache
@@ -105,18 +106,24 @@ class Kept:
         self.kind = kind
 
     def line(self, name, parts):
+        """The line of a try that rests on these parts."""
         key = hashlib.sha256(b"\0".join(part if isinstance(part, bytes) else part.encode() for part in parts))
         return f"{self.kind} {name} {key.hexdigest()[:32]}"
 
     def lines(self):
+        """All that is kept, of each kind."""
         return self.FILE.read_text().splitlines() if self.FILE.exists() else []
 
     def has(self, name, *parts):
+        """Whether it was refused on these parts."""
         return self.line(name, parts) in self.lines()
 
     def keep(self, name, *parts):
-        """Takes the place of what was kept under the name before."""
-        with open(ROOT / "doubt" / ".lock", "w") as lock:
+        """Takes the place of what was kept under the name before. The file is renamed to its place, so that one who is
+        ended in the middle leaves it as it was."""
+        with open(self.FILE.parent / ".lock", "w") as lock:
             fcntl.flock(lock, fcntl.LOCK_EX)
             others = [line for line in self.lines() if not line.startswith(f"{self.kind} {name} ")]
-            self.FILE.write_text("".join(f"{line}\n" for line in sorted([*others, self.line(name, parts)])))
+            new = self.FILE.with_name(".refused")
+            new.write_text("".join(f"{line}\n" for line in sorted([*others, self.line(name, parts)])))
+            os.replace(new, self.FILE)

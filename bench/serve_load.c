@@ -1,11 +1,12 @@
 /* Sends requests to 127.0.0.1 over connections, each on a thread of its own, and prints one line: how many were
-   answered, in how many seconds, and the microseconds that half of them and that 99 of 100 didn't pass.
+   answered, in how many seconds, and the microseconds that half of them, that 99 of 100 and that all didn't pass.
 
-   usage: serve_load [--postgres COUNT] PORT SECONDS FILE..
+   usage: serve_load [--again] [--postgres COUNT] PORT SECONDS FILE..
 
    A FILE is what one connection sends: for each request a line `BYTES PREFIX`, and then so many bytes. A request is
    sent once the one before is answered. An answer is a line, and has to begin with the prefix. The first request of a
-   file comes before the clock starts. A connection ends with its file, or once the seconds are over.
+   file comes before the clock starts. A connection ends with its file, or once the seconds are over. With --again it
+   ends with the seconds alone: it sends its file again and again, and the half and the 99 are of the last requests.
 
    With --postgres an answer is messages, each a letter, the four bytes of its length and the rest, up to the one by
    which PostgreSQL is ready again. The text of its row has to begin with the prefix; without a row the answer itself
@@ -38,12 +39,12 @@ struct talker {
     uint64_t nanos;
     struct request *requests;
     size_t count, done;
-    uint64_t *took, began, ended;
+    uint64_t *took, longest, began, ended;
     pthread_t thread;
 };
 
 static pthread_barrier_t begin;
-static int is_postgres;
+static int is_postgres, is_again;
 static size_t before_clock = 1;
 
 static void give_up(const char *what) {
@@ -159,11 +160,14 @@ static void *talk(void *given) {
     for (size_t n = 0; n < before_clock; n++) ask(on, &talker->requests[n], answer);
     pthread_barrier_wait(&begin);
     talker->began = talker->ended = now();
-    for (size_t n = before_clock; n < talker->count && talker->ended - talker->began < talker->nanos; n++) {
+    size_t timed = talker->count - before_clock;
+    while (timed && (is_again || talker->done < timed) && talker->ended - talker->began < talker->nanos) {
+        size_t n = talker->done++ % timed;
         uint64_t before = now();
-        ask(on, &talker->requests[n], answer);
+        ask(on, &talker->requests[before_clock + n], answer);
         talker->ended = now();
-        talker->took[talker->done++] = talker->ended - before;
+        talker->took[n] = talker->ended - before;
+        if (talker->took[n] > talker->longest) talker->longest = talker->took[n];
     }
     close(on);
     free(answer);
@@ -175,25 +179,38 @@ static int by_size(const void *one, const void *other) {
     return (a > b) - (a < b);
 }
 
+/* How many times of a talker's are kept. */
+static size_t times(const struct talker *talker) {
+    size_t timed = talker->count - before_clock;
+    return talker->done < timed ? talker->done : timed;
+}
+
 static void report(const struct talker *talkers, size_t count) {
-    uint64_t began = UINT64_MAX, ended = 0;
-    size_t done = 0, at = 0;
+    uint64_t began = UINT64_MAX, ended = 0, longest = 0;
+    size_t done = 0, kept = 0, at = 0;
     for (size_t n = 0; n < count; n++) {
         done += talkers[n].done;
+        kept += times(&talkers[n]);
+        if (talkers[n].longest > longest) longest = talkers[n].longest;
         if (talkers[n].began < began) began = talkers[n].began;
         if (talkers[n].ended > ended) ended = talkers[n].ended;
     }
-    uint64_t *took = room(done, sizeof *took);
+    uint64_t *took = room(kept, sizeof *took);
     for (size_t n = 0; n < count; n++) {
-        memcpy(took + at, talkers[n].took, talkers[n].done * sizeof *took);
-        at += talkers[n].done;
+        memcpy(took + at, talkers[n].took, times(&talkers[n]) * sizeof *took);
+        at += times(&talkers[n]);
     }
-    qsort(took, done, sizeof *took, by_size);
-    printf("%zu %.6f %.1f %.1f\n", done, (double)(ended - began) / 1e9, done ? took[done / 2] / 1e3 : 0.0,
-           done ? took[done * 99 / 100] / 1e3 : 0.0);
+    qsort(took, kept, sizeof *took, by_size);
+    printf("%zu %.6f %.1f %.1f %.1f\n", done, (double)(ended - began) / 1e9, kept ? took[kept / 2] / 1e3 : 0.0,
+           kept ? took[kept * 99 / 100] / 1e3 : 0.0, longest / 1e3);
 }
 
 int main(int count, char **words) {
+    if (count > 1 && !strcmp(words[1], "--again")) {
+        is_again = 1;
+        count--;
+        words++;
+    }
     if (count > 2 && !strcmp(words[1], "--postgres")) {
         is_postgres = 1;
         before_clock = (size_t)atol(words[2]);
@@ -201,7 +218,7 @@ int main(int count, char **words) {
         words += 2;
     }
     if (count < 4) {
-        fprintf(stderr, "usage: serve_load [--postgres COUNT] PORT SECONDS FILE..\n");
+        fprintf(stderr, "usage: serve_load [--again] [--postgres COUNT] PORT SECONDS FILE..\n");
         return 2;
     }
     size_t files = (size_t)count - 3;

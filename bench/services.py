@@ -21,6 +21,7 @@ class Figures(NamedTuple):
     a_second: float
     half: float  # microseconds that half of the answers took at most
     most: float  # and 99 of 100
+    longest: float  # and all
     stolen: float  # percent of the processors' time that the host took
 
 
@@ -61,6 +62,18 @@ def answer_to(talk, line):
     talk.write(line)
     talk.flush()
     return talk.readline()
+
+
+@contextlib.contextmanager
+def computing(count):
+    """So many processes that only compute."""
+    running = [subprocess.Popen([sys.executable, "-c", "while True: pass"]) for _ in range(count)]
+    try:
+        yield
+    finally:
+        for process in running:
+            process.kill()
+            process.wait()
 
 
 @contextlib.contextmanager
@@ -169,9 +182,9 @@ def sent(load, port, seconds, paths, words=()):
     stolen, passed = processor_time()
     run = subprocess.run([load, *words, str(port), str(seconds), *paths], stdout=subprocess.PIPE, check=True)
     stolen_then, passed_then = processor_time()
-    count, took, half, most = map(float, run.stdout.split())
+    count, took, half, most, longest = map(float, run.stdout.split())
     a_second = count / took if took > 0 else 0.0
-    return Figures(a_second, half, most, 100 * (stolen_then - stolen) / max(passed_then - passed, 1))
+    return Figures(a_second, half, most, longest, 100 * (stolen_then - stolen) / max(passed_then - passed, 1))
 
 
 def album_files(folder, requests, connections):

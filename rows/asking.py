@@ -3,9 +3,9 @@ import os
 import pty
 import subprocess
 
-from helpers import BAD_LINE, COMMITTED, SERVED, compact
-from options import NOTHING_NOTED, READ
-from serving import SECONDS, Service, free_port, joined, want, wrong_of
+from helpers import BAD_LINE, SERVED, compact
+from options import READ
+from serving import NOTHING_NOTED, SECONDS, Service, free_port, joined, rows_of, want
 
 # amy's picture and album; the picture's list lets everyone read it, and nobody delete it.
 OPENING = joined([
@@ -40,7 +40,8 @@ def requests_and_lines(program):
 def spelled_answers(program):
     """Contents that are text, the bits of masks and flags, and what was made, by their names."""
     get_list = {"do": "get_list", "object": "picture/0"}
-    set_list = {"do": "set_lists", "lists": [["album/0", [["audit", "EVERYONE@", 65537, 48], ["allow", "OWNER@", 2, 1]]]]}
+    entries = [["audit", "EVERYONE@", 65537, 48], ["allow", "OWNER@", 2, 1]]
+    set_list = {"do": "set_lists", "lists": [["album/0", entries]]}
     with Service(program, OPENING, 2) as service:
         refused = {"answer": "denied", "client": 1, "reasons": [["picture/0", "DELETE", "end"],
                                                               ["album/0", "DELETE_CHILD", "end"]]}
@@ -120,7 +121,8 @@ def nobody_is_there(program):
     want((1, b"", True), (status, out, err.startswith(b"album: port ")), "a run without a service")
     with Service(program, OPENING, 2) as service:
         unknown = b"album: the service doesn't talk to bo (a principal is name@users or ANONYMOUS@)\n"
-        want((1, b'{"name":"BadWho","refused":4}\n', unknown), asked(program, service.port, ["--as", "bo"], b""), "nobody")
+        nobody = asked(program, service.port, ["--as", "bo"], b"")
+        want((1, b'{"name":"BadWho","refused":4}\n', unknown), nobody, "nobody")
         want((0, b"", b""), asked(program, service.port, ["--as", "bo@users"], b""), "a run that asks nothing")
         service.end(NOTHING_NOTED, [b""])
 
@@ -159,11 +161,6 @@ FACTS = {
 }
 
 
-def held(program, fact):
-    return wrong_of(fact, program)
-
-
 def checks():
     """Each row: its name, how it is run on a program, and what it is."""
-    for name, fact in FACTS.items():
-        yield f"ask: {name}", held, fact
+    return rows_of("ask", FACTS)

@@ -6,14 +6,13 @@ import os
 import pty
 import signal
 import subprocess
-import sys
-import tempfile
 import threading
 import time
 import tty
 
-from options import ALLOWED, NOTHING_NOTED, READ, READ_MISSING, opening, talker
-from serving import SECONDS, Connection, Service, free_port, joined, undated, untimed, want, wrong_of
+from options import ALLOWED, READ, READ_MISSING, opening, talker
+from serving import (SECONDS, Connection, Service, free_port, held_in_folder, joined, rows_of, undated,
+                     untimed, want)
 from strangers import fills
 from talks import ONE_PIECE
 
@@ -157,8 +156,8 @@ def stalled(program, *words):
 
 
 def a_file_that_stalls(program, _folder):
-    """Whoever notes nothing is answered, and begins, while the audit file takes nothing; whoever has noted waits, and is
-    answered once it goes on."""
+    """Whoever notes nothing is answered, and begins, while the audit file takes nothing; whoever has noted waits, and
+    is answered once it goes on."""
     service, noted, count, master, slave = stalled(program)
     try:
         other = talker(service, "amy@users")
@@ -182,8 +181,8 @@ def a_file_that_stalls(program, _folder):
 
 
 def a_turn_beside_a_file_that_stalls(program, _folder):
-    """An epoch is due to turn while the audit file takes nothing. It goes on after a second or two: whoever notes nothing
-    is answered, and begins."""
+    """An epoch is due to turn while the audit file takes nothing. It goes on after a second or two: whoever notes
+    nothing is answered, and begins."""
     service, noted, _, master, slave = stalled(program, "--epochs")
     try:
         other, longest = talker(service, "amy@users"), 0
@@ -254,8 +253,8 @@ def moved_away(program, folder):
         reader.finish()
         service.run.stdin.close()
         goes_on = f"album: {path}: it is another file now, ".encode()
-        service.end(b'{"alarms":[0,0],"audits":[5,0]}\n', [
-            (goes_on + b"which is gone on with\n") * 2 + goes_on + b"whose last line was torn, and is ended\n"], is_dated=True)
+        said = (goes_on + b"which is gone on with\n") * 2 + goes_on + b"whose last line was torn, and is ended\n"
+        service.end(b'{"alarms":[0,0],"audits":[5,0]}\n', [said], is_dated=True)
 
 
 def moved_to_nowhere(program, folder):
@@ -277,8 +276,8 @@ def moved_to_nowhere(program, folder):
 
 
 def closed_descriptors(program, folder):
-    """Where standard error is closed, what would be said there goes nowhere. Where standard output is, the service can't
-    say that it serves, and ends; and a closed input can't be read. No file has what is another's."""
+    """Where standard error is closed, what would be said there goes nowhere. Where standard output is, the service
+    can't say that it serves, and ends; and a closed input can't be read. No file has what is another's."""
     path, opened = os.path.join(folder, "notes"), os.path.join(folder, "opening")
     with open(opened, "wb") as file:
         file.write(AUDITED)
@@ -484,21 +483,6 @@ FACTS = {
 }
 
 
-def hold(program, fact):
-    with tempfile.TemporaryDirectory() as folder:
-        fact(program, folder)
-
-
-def held(program, fact):
-    return wrong_of(hold, program, fact)
-
-
 def checks():
     """Each row: its name, how it is run on a program, and what it is."""
-    for name, fact in FACTS.items():
-        yield f"audits: {name}", held, fact
-
-
-if __name__ == "__main__":
-    for row, check, given in checks():
-        print(row, check(sys.argv[1], given) or "ok", flush=True)
+    return rows_of("audits", FACTS, held_in_folder)

@@ -148,8 +148,8 @@ class Script:
 
 
 def done_in_order(done):
-    """The albums with their pictures and titles, once what was committed is done in the order of the stamps; and of each
-    picture the stamps at which it and its list were written last."""
+    """The albums with their pictures and titles, once what was committed is done in the order of the stamps; and of
+    each picture the stamps at which it and its list were written last."""
     title, home = {"picture/0": "Sea", "picture/1": "Sky"}, {"picture/0": "album/0", "picture/1": "album/1"}
     stamps, lists = dict.fromkeys(title, 0), dict.fromkeys(title, 0)
     for stamp, asked in sorted(done, key=lambda row: row[0]):

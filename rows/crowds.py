@@ -8,11 +8,10 @@ import subprocess
 import threading
 import time
 
-from serving import SECONDS, Connection, Service, joined, want, wrong_of
+from serving import NOTHING_NOTED, SECONDS, Connection, Service, joined, rows_of, want
 from talks import ONE_PIECE
 
 TRIP = (pathlib.Path(__file__).resolve().parent / "serve" / "trip.jsonl").read_text().splitlines()
-NOTHING_NOTED = b'{"alarms":[0,0],"audits":[0,0]}\n'
 OWNER = ["allow", "OWNER@", 2032127, 0]
 SWEPT = {"answer": "swept"}
 NOT_PREPARED = {"name": "NotPrepared", "refused": 17}
@@ -231,7 +230,8 @@ def answers_left_unread(program):
         want(b'{"answer":"hello","client":1}\n', bo.answer(), "a hello")
         for _ in range(700):
             answer = json.loads(bo.answer())
-            want(("served", content, "Sea"), (answer["answer"], answer["content"], answer["title"]), "an answer taken late")
+            want(("served", content, "Sea"), (answer["answer"], answer["content"], answer["title"]),
+                 "an answer taken late")
         bo.finish()
         service.end(NOTHING_NOTED, [b""])
 
@@ -272,11 +272,6 @@ FACTS = {
 }
 
 
-def held(program, hold):
-    return wrong_of(hold, program)
-
-
 def checks():
     """Each row: its name, how it is run on a program, and what it is."""
-    for name, hold in FACTS.items():
-        yield f"serve: {name}", held, hold
+    return rows_of("serve", FACTS)

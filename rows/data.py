@@ -2,12 +2,11 @@
 are made here, with their sums, by the description in docs/FORMATS.md. Run by itself, `rows/data.py PROGRAM` also cuts a
 log at each byte, and changes each."""
 import json
-import pathlib
 import subprocess
 import sys
 import tempfile
 
-from serving import SECONDS, Connection, Differs, Service, free_port, want, wrong_of
+from serving import SECONDS, Connection, Differs, Service, free_port, held_in_folder, in_folder, rows_of, want
 from talks import ONE_PIECE
 
 MASK = (1 << 64) - 1
@@ -142,8 +141,8 @@ def goes_on(program, folder):
     want(True, another > int(made[8:]), "that no number is given twice")
     want(["epoch-2.log", "epoch-2.opening", "epoch-3.log", "epoch-3.opening", "lock"], names_in(folder), "the files")
     # What an epoch opens on is an opening as any other.
-    replayed = subprocess.run([program, "replay"], input=(folder / "epoch-3.opening").read_bytes()
-                              + b'{"ask":{"do":"list","album":"album/0"},"client":1,"who":"amy@users"}\n{"deliver":[1,200]}\n',
+    listing = b'{"ask":{"do":"list","album":"album/0"},"client":1,"who":"amy@users"}\n{"deliver":[1,200]}\n'
+    replayed = subprocess.run([program, "replay"], input=(folder / "epoch-3.opening").read_bytes() + listing,
                               capture_output=True, timeout=SECONDS)
     want([["picture/0", "Lake"]], json.loads(replayed.stdout.splitlines()[-1])["rows"], "a replay of the opening")
 
@@ -200,7 +199,8 @@ def damaged(program, folder):
             ("no sum", compact({"items": [], "part": 0, "stamp": 65537, "writes": []}) + b"\n", 1, "BadLine"),
             ("digits in upper case", right[:-20] + right[-20:].upper(), 1, "BadLine"),
             ("an empty line", right + b"\n" + other, 2, "BadLine"),
-            ("another partition", right + line(1, 65538, ["picture/0"], ["picture/0", picture("Hill")]), 2, "NoSuchPart"),
+            ("another partition", right + line(1, 65538, ["picture/0"], ["picture/0", picture("Hill")]), 2,
+             "NoSuchPart"),
             ("no stamp", line(0, 7, ["picture/0"], ["picture/0", picture("Hill")]), 1, "BadRequest"),
             ("an item that is none", line(0, 65537, ["picture/x"], ["picture/0", picture("Hill")]), 1, "BadRequest"),
             ("a value that is none", line(0, 65537, ["picture/0"], ["picture/0", {"title": "Hill"}]), 1, "BadRequest"),
@@ -216,8 +216,8 @@ def damaged(program, folder):
 
 
 def looked_at_and_repaired(program, folder):
-    """What `check-data` finds, where nothing is damaged and where a line is; and an epoch that begins on the lines before
-    it. The folder of a running service is refused, as one that has no epoch."""
+    """What `check-data` finds, where nothing is damaged and where a line is; and an epoch that begins on the lines
+    before it. The folder of a running service is refused, as one that has no epoch."""
     want((1, "", "album: DIR: it has no epoch\n"), checked(program, folder), "what is said of an empty folder")
     first = line(0, 65537, ["picture/0"], ["picture/0", picture("Lake")])
     second = line(0, 131073, ["picture/0"], ["picture/0", picture("Hill")])
@@ -298,7 +298,8 @@ def disk_that_is_full(program, folder):
             last = 0
             for number in range(1, 5000):
                 try:
-                    answer = connection.ask({"ask": {"do": "retitle", "object": "picture/0", "title": "x" * 190 + str(number)}})
+                    title = "x" * 190 + str(number)
+                    answer = connection.ask({"ask": {"do": "retitle", "object": "picture/0", "title": title}})
                 except (OSError, ValueError):
                     break
                 if answer.get("answer") != "committed":
@@ -359,23 +360,12 @@ def at_each_byte(program, folder, say):
     say(f"of {len(log)} changes {named} were named, and {torn} left a torn line at the end")
 
 
-def hold(program, fact):
-    """Holds it in a folder of its own."""
-    with tempfile.TemporaryDirectory() as folder:
-        fact(program, pathlib.Path(folder))
-
-
-def held(program, fact):
-    return wrong_of(hold, program, fact)
-
-
 def checks():
     """Each row: its name, how it is run on a program, and what it is."""
-    for name, fact in FACTS.items():
-        yield f"data: {name}", held, fact
+    return rows_of("data", FACTS, held_in_folder)
 
 
 if __name__ == "__main__":
     for name, fact in FACTS.items():
-        print(f"{name}: {held(sys.argv[1], fact) or 'holds'}")
-    hold(sys.argv[1], lambda program, folder: at_each_byte(program, folder, print))
+        print(f"{name}: {held_in_folder(sys.argv[1], fact) or 'holds'}")
+    in_folder(sys.argv[1], lambda program, folder: at_each_byte(program, folder, print))

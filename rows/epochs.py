@@ -9,7 +9,7 @@ import threading
 import time
 
 from data import ALL, EVERYONE, compact, opening, picture
-from serving import SECONDS, Connection, Differs, Service, want, wrong_of
+from serving import SECONDS, Connection, Differs, Service, rows_of, want
 from turns import LIMIT, PICTURES, first, greeted, retitle, set_to, stamps_in, titles_in, writes
 
 # So many counters are left out after each epoch.
@@ -227,8 +227,7 @@ ROWS = {
 
 def checks():
     """The rows: the name of each, how it is run on a program, and what it is."""
-    for name, hold in ROWS.items():
-        yield f"epochs: {name}", lambda program, hold: wrong_of(hold, program), hold
+    return rows_of("epochs", ROWS)
 
 
 def main():

@@ -10,8 +10,8 @@ import subprocess
 import sys
 import threading
 
-from options import ALLOWED, NOTHING_NOTED, READ
-from serving import SECONDS, Service, free_port, joined, want, wrong_of
+from options import ALLOWED, READ
+from serving import NOTHING_NOTED, SECONDS, Service, free_port, joined, rows_of, want
 
 ROWS = pathlib.Path(__file__).resolve().parent
 EXAMPLES = ROWS.parent / "examples"
@@ -188,11 +188,6 @@ FACTS = {
 }
 
 
-def held(program, fact):
-    return wrong_of(fact, program)
-
-
 def checks():
     """Each row: its name, how it is run on a program, and what it is."""
-    for name, fact in FACTS.items():
-        yield f"examples: {name}", held, fact
+    return rows_of("examples", FACTS)

@@ -1,6 +1,6 @@
-"""A service that is killed while it writes, and started again on its folder: nothing that was answered is lost, no write
-is there in part, and each is shown at the stamp that was answered. Run by itself, `rows/kills.py PROGRAM [KILLS] [SEED]` says how each life ended."""
-import json
+"""A service that is killed while it writes, and started again on its folder: nothing that was answered is lost, no
+write is there in part, and each is shown at the stamp that was answered. Run by itself, `rows/kills.py PROGRAM [KILLS]
+[SEED]` says how each life ended."""
 import pathlib
 import random
 import shutil
@@ -10,7 +10,7 @@ import threading
 import time
 
 from crowds import connected
-from races import ALL, EVERYONE, album, entries, opening, picture
+from races import EVERYONE, album, entries, opening, picture
 from serving import Connection, Differs, Service, want, wrong_of
 
 PICTURES = 8
@@ -25,8 +25,8 @@ def first_items():
 
 
 class Seen:
-    """What clients were answered: of each picture its titles in the order in which they were committed by one writer, and
-    of each pair of lists the mask that it has."""
+    """What clients were answered: of each picture its titles in the order in which they were committed by one writer,
+    and of each pair of lists the mask that it has."""
 
     def __init__(self):
         self.lock = threading.Lock()
@@ -131,8 +131,8 @@ def life(program, folder, first, seen, seconds):
         with connected(service, ["amy@users"]) as [connection]:
             checked(connection, seen)
         stop = threading.Event()
-        work = [(retitles, seen, n, stop) for n in (4, 5, 6, 7)] + [(pairs, seen, 0, 1, stop), (pairs, seen, 2, 3, stop),
-                (adds, seen, stop), (adds, seen, stop), (reads, seen, stop)]
+        work = [*((retitles, seen, n, stop) for n in (4, 5, 6, 7)), (pairs, seen, 0, 1, stop),
+                (pairs, seen, 2, 3, stop), (adds, seen, stop), (adds, seen, stop), (reads, seen, stop)]
         connections = [greeted(service) for _ in work]
         threads = [threading.Thread(target=until_cut, args=(how, connection, *given))
                    for connection, (how, *given) in zip(connections, work)]
@@ -173,10 +173,15 @@ def kills(program, count=25, seed=1, say=lambda text: None):
         shutil.rmtree(folder)
 
 
+def kills_row(program, count):
+    """What is wrong with a service that is killed so often, if anything is."""
+    return wrong_of(kills, program, count)
+
+
 def checks():
     """The row: its name, how it is run on a program, and what it is."""
-    yield "kills: a service is killed 12 times while it writes", lambda program, count: wrong_of(kills, program, count), 12
+    yield "kills: a service is killed 12 times while it writes", kills_row, 12
 
 
 if __name__ == "__main__":
-    kills(sys.argv[1], int(sys.argv[2]) if len(sys.argv) > 2 else 25, int(sys.argv[3]) if len(sys.argv) > 3 else 1, print)
+    kills(sys.argv[1], *map(int, sys.argv[2:]), say=print)

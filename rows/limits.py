@@ -13,9 +13,9 @@ import subprocess
 import tempfile
 import time
 
-from crowds import NOTHING_NOTED, TRIP, at_once
+from crowds import TRIP, at_once
 from options import talker
-from serving import SECONDS, Connection, Differs, Service, free_port, joined, want, wrong_of
+from serving import NOTHING_NOTED, SECONDS, Connection, Differs, Service, free_port, joined, rows_of, want
 from talks import ONE_PIECE
 
 OPENING = joined(TRIP)
@@ -116,7 +116,8 @@ def stopped_and_continued(program):
 
 
 def errors_that_nobody_reads(program):
-    """Connections that break off have a line on standard error. Where nobody reads it, the others are answered still."""
+    """Connections that break off have a line on standard error. Where nobody reads it, the others are answered
+    still."""
     reads, writes = os.pipe()
     fcntl.fcntl(writes, fcntl.F_SETPIPE_SZ, 4096)
     with os.fdopen(reads, "rb"), Service(program, OPENING, 402, errors=os.fdopen(writes, "wb")) as service:
@@ -138,7 +139,7 @@ def writes_until_it_ends(service, client):
     except ConnectionRefusedError:
         return
     try:
-        lines = [HELLO] + [{"ask": {"do": "retitle", "object": "picture/0", "title": f"{client}, {n}"}} for n in range(30)]
+        lines = [HELLO, *(retitle(f"{client}, {n}") for n in range(30))]
         for line in lines:
             connection.send(json.dumps(line).encode() + b"\n")
             answer = connection.answer()
@@ -352,11 +353,6 @@ FACTS = {
 }
 
 
-def held(program, hold):
-    return wrong_of(hold, program)
-
-
 def checks():
     """Each row: its name, how it is run on a program, and what it is."""
-    for name, hold in FACTS.items():
-        yield f"serve: {name}", held, hold
+    return rows_of("serve", FACTS)

@@ -5,15 +5,14 @@ import os
 import re
 import socket
 import subprocess
-import sys
-import tempfile
 import threading
 import time
 
 from audits import AUDITED, noted_read
-from options import ALLOWED, NOTHING_NOTED, READ, talker
-from serving import MOMENT, RESET, SECONDS, Connection, Differs, Service, free_port, undated, untimed, want, wrong_of
-from strangers import CLOSED, THREADS, first_answer, is_open, said_soon, seconds_of, until_eof
+from options import ALLOWED, READ, talker
+from serving import (MOMENT, NOTHING_NOTED, SECONDS, Connection, Differs, Service, free_port, held_in_folder,
+                     rows_of, undated, untimed, want)
+from strangers import CLOSED, THREADS, first_answer, is_open, seconds_of, until_eof
 from talks import ONE_PIECE
 
 FILES = 64
@@ -362,22 +361,6 @@ FACTS = {
 }
 
 
-def hold(program, fact):
-    with tempfile.TemporaryDirectory() as folder:
-        fact(program, folder)
-
-
-def held(program, fact):
-    return wrong_of(hold, program, fact)
-
-
 def checks():
     """Each row: its name, how it is run on a program, and what it is."""
-    for name, fact in FACTS.items():
-        yield f"many: {name}", held, fact
-
-
-if __name__ == "__main__":
-    for row, check, given in checks():
-        if all(word in row for word in sys.argv[2:]):
-            print(row, check(sys.argv[1], given) or "ok", flush=True)
+    return rows_of("many", FACTS, held_in_folder)

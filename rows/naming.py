@@ -30,14 +30,16 @@ def names_and_numbers(program, subcommand, table):
         names.setdefault(number, name)
         want({subcommand: number}, printed(program, subcommand, name), f"what is printed for {name}")
     for number, name in names.items():
-        want({subcommand: number, "names": [name]}, printed(program, subcommand, str(number)), f"what is printed for {number}")
+        want({subcommand: number, "names": [name]}, printed(program, subcommand, str(number)),
+             f"what is printed for {number}")
 
 
-def held(program, row):
+def names_row(program, row):
+    """What is wrong with the names and numbers of a table, if anything is."""
     return wrong_of(names_and_numbers, program, *row)
 
 
 def checks():
     """Each row: its name, how it is run on a program, and what it is."""
-    yield "names: each bit of a mask", held, ("mask", MASKS)
-    yield "names: each flag", held, ("flags", FLAGS)
+    yield "names: each bit of a mask", names_row, ("mask", MASKS)
+    yield "names: each flag", names_row, ("flags", FLAGS)

@@ -4,9 +4,8 @@ import json
 import os
 import pathlib
 import subprocess
-import tempfile
 
-from serving import SECONDS, Connection, Service, free_port, joined, want, wrong_of
+from serving import NOTHING_NOTED, SECONDS, Connection, Service, free_port, held_in_folder, joined, rows_of, want
 from talks import ONE_PIECE
 
 REFUSED = {"name": "NotAdmin", "refused": 24}
@@ -14,7 +13,6 @@ SWEEP = {"sweep": {"part": 0, "stamp": 65537}}
 TRIM = {"trim": {"item": "picture/0", "part": 0}}
 READ = {"ask": {"do": "read", "object": "picture/0"}}
 READ_MISSING = {"ask": {"do": "read", "object": "picture/9"}}
-NOTHING_NOTED = b'{"alarms":[0,0],"audits":[0,0]}\n'
 SCRIPTS = pathlib.Path(__file__).resolve().parent / "replay"
 MAX_LINE = 65_536
 BAD_LINE = b'{"name":"BadLine","refused":2}\n'
@@ -192,17 +190,6 @@ FACTS = {
 }
 
 
-def hold(program, fact):
-    """Holds it in a folder of its own."""
-    with tempfile.TemporaryDirectory() as folder:
-        fact(program, folder)
-
-
-def held(program, fact):
-    return wrong_of(hold, program, fact)
-
-
 def checks():
     """Each row: its name, how it is run on a program, and what it is."""
-    for name, fact in FACTS.items():
-        yield f"options: {name}", held, fact
+    return rows_of("options", FACTS, held_in_folder)

@@ -1,6 +1,6 @@
-"""What pages and help texts show: each command of a `console` block, and of a help text, is run as it stands, and has to
-print what is shown under it. `7070` is the port of a service that is there. The script that `album replay --help` shows
-is replayed, and its first output is the one shown."""
+"""What pages and help texts show: each command of a `console` block, and of a help text, is run as it stands, and has
+to print what is shown under it. `7070` is the port of a service that is there. The script that `album replay --help`
+shows is replayed, and its first output is the one shown."""
 import os
 import pathlib
 import re
@@ -8,8 +8,7 @@ import subprocess
 import tempfile
 
 from asking import OPENING
-from options import NOTHING_NOTED
-from serving import SECONDS, Service, want, wrong_of
+from serving import NOTHING_NOTED, SECONDS, Service, held, want, wrong_of
 
 ROOT = pathlib.Path(__file__).resolve().parent.parent
 PAGES = sorted([*ROOT.glob("*.md"), *ROOT.glob("docs/*.md"), *ROOT.glob("examples/*.md")])
@@ -60,6 +59,11 @@ def page(program, path):
     run_all(program, commands)
 
 
+def page_row(program, path):
+    """What is wrong with a page's commands, if anything is."""
+    return wrong_of(page, program, path)
+
+
 def help_of(program, words):
     return subprocess.run([program, *words, "--help"], capture_output=True, text=True, timeout=SECONDS).stdout
 
@@ -77,11 +81,16 @@ def script_of_replay(program):
     """The opening and the events that the help shows bring about the output that it shows."""
     lines = re.findall(r"(?m)^  (\{.*\})$", help_of(program, ["replay"]))
     *script, served, refusal = lines
-    done = subprocess.run([program, "replay"], input="\n".join(script) + "\n", capture_output=True, text=True, timeout=SECONDS)
-    want(served + "\n", done.stdout, "the outputs")
-    done = subprocess.run([program, "replay"], input="\n".join([*script, '{"deliver":99}']) + "\n", capture_output=True,
-                          text=True, timeout=SECONDS)
-    want(f"{served}\n{refusal}\n", done.stdout, "the outputs with a message that there isn't")
+    want(f"{served}\n", replayed(program, script), "the outputs")
+    want(f"{served}\n{refusal}\n", replayed(program, [*script, '{"deliver":99}']),
+         "the outputs with a message that there isn't")
+
+
+def replayed(program, lines):
+    """What a replay of these lines prints."""
+    done = subprocess.run([program, "replay"], input="\n".join(lines) + "\n", capture_output=True, text=True,
+                          timeout=SECONDS)
+    return done.stdout
 
 
 def line_of_judge(program):
@@ -105,7 +114,8 @@ def talk_of_serve(program):
 def checks():
     """Each row: its name, how it is run on a program, and what it is."""
     for path in PAGES:
-        yield f"the commands of {path.relative_to(ROOT)}", lambda program, path: wrong_of(page, program, path), path
-    for name, check in (("commands of help texts", commands_of_helps), ("the script of replay --help", script_of_replay),
-                        ("the line of judge --help", line_of_judge), ("the talk of serve --help", talk_of_serve)):
-        yield name, lambda program, check: wrong_of(check, program), check
+        yield f"the commands of {path.relative_to(ROOT)}", page_row, path
+    yield "commands of help texts", held, commands_of_helps
+    yield "the script of replay --help", held, script_of_replay
+    yield "the line of judge --help", held, line_of_judge
+    yield "the talk of serve --help", held, talk_of_serve

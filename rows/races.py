@@ -1,5 +1,6 @@
 """Writes of one item that race over connections to a checked service: nothing that was answered is lost. Run by itself,
-`rows/races.py PROGRAM [--plain] [SECONDS]` says how each race went; with --plain the store isn't checked, and loses some."""
+`rows/races.py PROGRAM [--plain] [SECONDS]` says how each race went; with --plain the store isn't checked, and loses
+some."""
 import json
 import pathlib
 import random
@@ -7,7 +8,7 @@ import sys
 import time
 
 from crowds import at_once, connected
-from serving import SECONDS, Connection, Differs, Service, joined, want, wrong_of
+from serving import NOTHING_NOTED, SECONDS, Connection, Differs, Service, joined, rows_of, want, wrong_of
 from talks import ONE_PIECE
 
 ALL = 2032127
@@ -49,7 +50,7 @@ def serves(is_checked, program, items, count, hold):
     with Service(program, opening(is_checked, *items), count) as service:
         with connected(service, ["amy@users"] * count) as connections:
             hold(*connections)
-        service.end(b'{"alarms":[0,0],"audits":[0,0]}\n', [b""])
+        service.end(NOTHING_NOTED, [b""])
 
 
 def listed(connection, number):
@@ -138,9 +139,11 @@ def move_and_move(program, is_checked=True):
         there = 0
         for _ in range(ROUNDS):
             there = 1 - there
-            answers = race(one, other, *({"do": "move", "object": f"picture/{n}", "to": f"album/{there}"} for n in (0, 1)))
+            moves = ({"do": "move", "object": f"picture/{n}", "to": f"album/{there}"} for n in (0, 1))
+            answers = race(one, other, *moves)
             want(("committed", "committed"), tuple(answer["answer"] for answer in answers), "the answers")
-            want((["picture/0", "picture/1"], []), (sorted(listed(one, there)), listed(one, 1 - there)), "what is listed")
+            shown = sorted(listed(one, there)), listed(one, 1 - there)
+            want((["picture/0", "picture/1"], []), shown, "what is listed")
     items = [picture(0, 0, "Sea"), picture(0, 1, "Bay"), album(0, 2, ["picture/0", "picture/1"]), album(1, 3)]
     serves(is_checked, program, items + [entries(n, ["allow", "EVERYONE@", ALL, 0]) for n in range(4)], 2, hold)
 
@@ -193,7 +196,8 @@ def one_hot_picture(program, is_checked=True, seconds=3.0, count=64):
     def hold(*connections):
         until = time.monotonic() + seconds
         rows = at_once(*((retitles, connection, until) for connection in connections))
-        answers, aborted, slowest = sum(row[0] for row in rows), sum(row[1] for row in rows), max(row[2] for row in rows)
+        answers, aborted = (sum(row[place] for row in rows) for place in (0, 1))
+        slowest = max(row[2] for row in rows)
         print_if_alone(f"{answers} answers in {seconds} s, {aborted} aborted, the slowest after {slowest:.2f} s, "
                        f"{min(row[0] for row in rows)} to {max(row[0] for row in rows)} a client")
         want(True, slowest < 5 and aborted * 100 < answers, "whether each answer came soon, and few were aborted")
@@ -217,7 +221,8 @@ def retitle(title):
 
 
 def clients_that_go(program, is_checked=True):
-    """Clients break off while their writes race with others: these are answered, and what was answered last is there."""
+    """Clients break off while their writes race with others: these are answered, and what was answered last is
+    there."""
     def goes(service, client):
         for n in range(ROUNDS // 4):
             connection = greeted(service)
@@ -235,11 +240,11 @@ def clients_that_go(program, is_checked=True):
         at_once(*((stays, connection, n) for n, connection in enumerate(steady)),
                 *((goes, service, n) for n in range(4)))
         last, _ = insists(steady[0], retitle("last")["ask"])
-        want(("committed", "last"), (last["answer"], steady[1].ask({"ask": {"do": "read", "object": "picture/0"}})["title"]),
-             "the last title")
+        read = steady[1].ask({"ask": {"do": "read", "object": "picture/0"}})
+        want(("committed", "last"), (last["answer"], read["title"]), "the last title")
         for connection in steady:
             connection.finish()
-        want(b'{"alarms":[0,0],"audits":[0,0]}\n', service.run.stdout.read(), "the end")
+        want(NOTHING_NOTED, service.run.stdout.read(), "the end")
         want(0, service.run.wait(SECONDS), "the status")
 
 
@@ -308,7 +313,7 @@ def clients_that_are_killed(program, is_checked=True, seconds=8.0):
         for connection in steady:
             connection.finish()
         service.run.stdin.close()
-        want(b'{"alarms":[0,0],"audits":[0,0]}\n', service.run.stdout.read(), "the end")
+        want(NOTHING_NOTED, service.run.stdout.read(), "the end")
         want(0, service.run.wait(SECONDS), "the status")
 
 
@@ -338,7 +343,7 @@ def a_service_that_closes(program, is_checked=True):
         connections = [greeted(service) for _ in range(12)]
         *counts, _ = at_once(*((writes, connection, n) for n, connection in enumerate(connections)), (ends, service))
         want(True, min(counts) > 0, "whether each was answered before the end")
-        want(b'{"alarms":[0,0],"audits":[0,0]}\n', service.run.stdout.read(), "the end")
+        want(NOTHING_NOTED, service.run.stdout.read(), "the end")
         want(0, service.run.wait(SECONDS), "the status")
 
 
@@ -357,14 +362,9 @@ RACES = {
 }
 
 
-def held(program, hold):
-    return wrong_of(hold, program)
-
-
 def checks():
     """Each row: its name, how it is run on a program, and what it is."""
-    for name, hold in RACES.items():
-        yield f"serve, races: {name}", held, hold
+    return rows_of("serve, races", RACES)
 
 
 def print_if_alone(text):

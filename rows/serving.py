@@ -1,6 +1,7 @@
 """A running service, `album serve`, and connections to it, for the rows."""
 import json
 import os
+import pathlib
 import re
 import resource
 import signal
@@ -13,6 +14,7 @@ import threading
 SECONDS = 60  # how long a service may run, and how long one wait may take
 MOMENT = rb"\d{4}-\d\d-\d\dT\d\d:\d\d:\d\d\.\d{3}Z"
 RESET = struct.pack("ii", 1, 0)  # linger for no time: what is not sent is dropped, and the other side gets a reset
+NOTHING_NOTED = b'{"alarms":[0,0],"audits":[0,0]}\n'  # what a service prints at its end that has noted nothing
 
 
 class Differs(Exception):
@@ -41,11 +43,33 @@ def untimed(notes):
     return re.sub(b'"time":"' + MOMENT + b'",', b"", notes)
 
 
+class Ports:
+    """Which of the ports this process may take, where several processes run rows: none takes one that another has found
+    free, and has not taken yet."""
+
+    def __init__(self):
+        self.take(0, 1)
+
+    def take(self, number, count):
+        """Takes the ports of this number, of so many processes."""
+        self.number, self.count = number, count
+
+    def has(self, port):
+        # (the system may prefer odd ports, or even ones, so pairs are dealt)
+        return port // 2 % self.count == self.number
+
+
+PORTS = Ports()
+
+
 def free_port():
     """A port that nobody has."""
-    with socket.socket() as any_port:
-        any_port.bind(("127.0.0.1", 0))
-        return any_port.getsockname()[1]
+    while True:
+        with socket.socket() as any_port:
+            any_port.bind(("127.0.0.1", 0))
+            port = any_port.getsockname()[1]
+        if PORTS.has(port):
+            return port
 
 
 class Service:
@@ -62,7 +86,8 @@ class Service:
             if size is not None:
                 # A write beyond the size fails, and doesn't end the process.
                 signal.signal(signal.SIGXFSZ, signal.SIG_IGN)
-            for what, most in ((resource.RLIMIT_NOFILE, files), (resource.RLIMIT_AS, memory), (resource.RLIMIT_FSIZE, size)):
+            for what, most in ((resource.RLIMIT_NOFILE, files), (resource.RLIMIT_AS, memory),
+                               (resource.RLIMIT_FSIZE, size)):
                 if most is not None:
                     resource.setrlimit(what, (most, most))
 
@@ -166,3 +191,25 @@ def wrong_of(hold, *given):
     except (Differs, OSError, ValueError, KeyError, subprocess.SubprocessError, threading.BrokenBarrierError) as error:
         return str(error) if isinstance(error, Differs) else repr(error)
     return None
+
+
+def held(program, fact):
+    """What is wrong with a fact of the program, if anything is."""
+    return wrong_of(fact, program)
+
+
+def in_folder(program, fact, *given):
+    """Holds a fact of the program in a folder of its own."""
+    with tempfile.TemporaryDirectory(prefix="album-row-") as folder:
+        fact(program, pathlib.Path(folder), *given)
+
+
+def held_in_folder(program, fact):
+    """What is wrong with a fact that has a folder of its own, if anything is."""
+    return wrong_of(in_folder, program, fact)
+
+
+def rows_of(kind, facts, check=held):
+    """The rows of these facts, which have names: the name of each, how it is run on a program, and what it is."""
+    for name, fact in facts.items():
+        yield f"{kind}: {name}", check, fact

@@ -9,15 +9,14 @@ import shutil
 import signal
 import socket
 import subprocess
-import sys
-import tempfile
 import threading
 import time
 import urllib.error
 import urllib.request
 
-from options import ALLOWED, NOTHING_NOTED, READ, opening, talker
-from serving import MOMENT, SECONDS, Connection, Service, free_port, joined, undated, want, wrong_of
+from options import ALLOWED, READ, opening, talker
+from serving import (MOMENT, NOTHING_NOTED, SECONDS, Connection, Service, free_port, held_in_folder, joined, rows_of,
+                     undated, want)
 from talks import ONE_PIECE
 
 OWNED = opening([["allow", "OWNER@", 2032127, 0], ["allow", "EVERYONE@", 257, 0]])
@@ -450,21 +449,6 @@ FACTS = {
 }
 
 
-def hold(program, fact):
-    with tempfile.TemporaryDirectory() as folder:
-        fact(program, folder)
-
-
-def held(program, fact):
-    return wrong_of(hold, program, fact)
-
-
 def checks():
     """Each row: its name, how it is run on a program, and what it is."""
-    for name, fact in FACTS.items():
-        yield f"strangers: {name}", held, fact
-
-
-if __name__ == "__main__":
-    for row, check, given in checks():
-        print(row, check(sys.argv[1], given) or "ok", flush=True)
+    return rows_of("strangers", FACTS, held_in_folder)

@@ -2,14 +2,12 @@
 them, and nobody who is connected sees more of it than a longer answer. Run by itself, `rows/turns.py PROGRAM [WRITES]`
 says what was seen."""
 import json
-import pathlib
 import sys
-import tempfile
 import threading
 import time
 
 from data import EVERYONE, names_in, opening, picture, served
-from serving import SECONDS, Connection, Differs, Service, want, wrong_of
+from serving import SECONDS, Connection, Differs, Service, held_in_folder, in_folder, rows_of, want
 
 PICTURES = 6
 LIMIT = 400
@@ -67,8 +65,8 @@ def stamps_in(connection):
 
 
 def turns_under_load(program, folder, count=600):
-    """Five connections write, and one has nothing to say until all is over. All are answered in the epochs that come, and
-    a start finds what was written."""
+    """Five connections write, and one has nothing to say until all is over. All are answered in the epochs that come,
+    and a start finds what was written."""
     wrong = []
     with Service(program, first(), 65535, "--data", str(folder)) as service:
         silent = greeted(service)
@@ -157,8 +155,8 @@ def until_cut(connection, data):
 
 
 def turns_by_bytes(program, folder):
-    """With `--log-mb 1` four hundred writes of pictures of 4,096 bytes turn the epoch twice, though few marks are made. What was
-    added is there."""
+    """With `--log-mb 1` four hundred writes of pictures of 4,096 bytes turn the epoch twice, though few marks are made.
+    What was added is there."""
     with Service(program, first(limit=10_000), 65535, "--data", str(folder), "--log-mb", "1") as service:
         connection, made = greeted(service), []
         for n in range(100):
@@ -227,22 +225,16 @@ ROWS = {
 }
 
 
-def in_folder(hold, program, *given):
-    with tempfile.TemporaryDirectory(prefix="album-turns-") as folder:
-        hold(program, pathlib.Path(folder), *given)
-
-
 def checks():
     """The rows: the name of each, how it is run on a program, and what it is."""
-    for name, hold in ROWS.items():
-        yield f"turns: {name}", lambda program, hold: wrong_of(in_folder, hold, program), hold
+    return rows_of("turns", ROWS, held_in_folder)
 
 
 def main():
     program, given = sys.argv[1], [int(word) for word in sys.argv[2:]]
     for name, hold in ROWS.items():
         began = time.monotonic()
-        in_folder(hold, program, *(given if hold is turns_under_load else ()))
+        in_folder(program, hold, *(given if hold is turns_under_load else ()))
         print(f"{name}: {time.monotonic() - began:.1f} s")
 
 

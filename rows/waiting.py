@@ -3,7 +3,7 @@ import os
 import select
 import subprocess
 
-from serving import SECONDS, want, wrong_of
+from serving import SECONDS, held, want
 
 # The entry lets amy read.
 LINE = b'{"entries":[["allow","amy@users",1,0]],"group":0,"mask":1,"owner":"bo@users","who":"amy@users"}'
@@ -38,10 +38,6 @@ def whoever_waits_is_answered(program):
         run.stdin.close()
         want(b"", run.stdout.read(), "what is answered to nothing")
         want(0, run.wait(SECONDS), "the status")
-
-
-def held(program, hold):
-    return wrong_of(hold, program)
 
 
 def checks():

@@ -2,11 +2,10 @@
 import json
 import os
 import subprocess
-import tempfile
 import time
 
 from options import READ, opening, talker
-from serving import SECONDS, Service, free_port, joined, untimed, want, wrong_of
+from serving import SECONDS, Service, free_port, held_in_folder, joined, rows_of, untimed, want
 
 # Reads are audited, and those of eve's, which are denied, raise an alarm too.
 AUDITED = opening([["deny", "eve@users", 1, 0], ["allow", "EVERYONE@", 257, 0], ["audit", "EVERYONE@", 1, 48],
@@ -60,7 +59,8 @@ def notes_in_a_file(program, folder):
 
 
 def notes_of_many(program, folder):
-    """Four connections at once: each note is in the file by when its request is answered, and none is lost or doubled."""
+    """Four connections at once: each note is in the file by when its request is answered, and none is lost or
+    doubled."""
     path = os.path.join(folder, "notes")
     with Service(program, AUDITED, 4, "--audit", path) as service:
         connections = [talker(service, f"user{n}@users") for n in range(4)]
@@ -244,17 +244,6 @@ FACTS = {
 }
 
 
-def hold(program, fact):
-    """Holds it in a folder of its own."""
-    with tempfile.TemporaryDirectory() as folder:
-        fact(program, folder)
-
-
-def held(program, fact):
-    return wrong_of(hold, program, fact)
-
-
 def checks():
     """Each row: its name, how it is run on a program, and what it is."""
-    for name, fact in FACTS.items():
-        yield f"watching: {name}", held, fact
+    return rows_of("watching", FACTS, held_in_folder)
