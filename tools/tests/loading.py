@@ -9,8 +9,8 @@ from types import ModuleType
 
 ROOT = pathlib.Path(__file__).resolve().parent.parent.parent
 # Each script whose functions may be tested.
-SCRIPTS = ("check", "docs/definitions", "doubt/fits", "doubt/goals", "doubt/laws", "doubt/memory", "doubt/tests",
-           "misuse/run", "rows/run", "tools/map", "tools/unspecified", "tools/tests/run")
+SCRIPTS = ("check", "doubt/fits", "doubt/goals", "doubt/laws", "doubt/memory", "doubt/tests",
+           "misuse/run", "rows/run", "tools/index", "tools/map", "tools/unspecified", "tools/tests/run")
 for folder in (".", "tools", "doubt", "rows", "examples"):
     sys.path.append(str(ROOT / folder))
 

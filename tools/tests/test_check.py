@@ -46,7 +46,7 @@ class Counts(unittest.TestCase):
 class Commands(unittest.TestCase):
     def test_nothing_that_proves_is_quick(self):
         quick = [" ".join(words) for words in check.quick_commands(None)]
-        for words in ("docs/definitions --check", "doubt/fits", "tools/unspecified --check", "tools/tests/run",
+        for words in ("tools/index --check", "doubt/fits", "tools/unspecified --check", "tools/tests/run",
                       "rows/run --quick"):
             self.assertIn(words, quick)
         for words in ("rt ci", "./build", "doubt/goals", "doubt/laws", "doubt/tests", "doubt/memory"):
@@ -55,7 +55,7 @@ class Commands(unittest.TestCase):
 
     def test_all_of_the_quick_ones_but_the_sample_are_in_the_whole(self):
         whole = [" ".join(words) for words in check.CHECKS]
-        for words in ("docs/definitions --check", "doubt/fits", "tools/unspecified --check", "tools/tests/run",
+        for words in ("tools/index --check", "doubt/fits", "tools/unspecified --check", "tools/tests/run",
                       "misuse/run", "rt ci", "rows/run"):
             self.assertIn(words, whole)
 
