@@ -2,7 +2,7 @@
 -- others (`from_cut`), and all that is logged (`logged_throughout`). So an item opens at its greatest logged stamp
 -- (`opens`).
 use Rattle.std.proofs.Common.{◌≡◌, ◌⊎◌, inl, inr, ℕ, zero, suc, ◌+◌, ◌<◌, ◌≤◌, ◌==◌, Bool, true, false, List, [], ◌∷◌, ◌++◌, get_or, length, All, Contains, Option, Some, None, if◌then◌else◌, ⊎_elim, refl, sym, ap, ◌∙◌, subst, arith, eqb-true, eq-eqb}
-use Rattle.std.specs.List.{list_any}
+use Rattle.std.specs.List.{find, list_any}
 use Rattle.std.specs.Option.{option_map, unwrap_or}
 use Rattle.std.proofs.Math.Nat.{mod-lt}
 use Rattle.std.proofs.lemmas.List.Elements.{All-contains, All-contains_itself, Contains-append_right, Contains-push_cases}
@@ -229,8 +229,9 @@ module _ (o : Opening) (c : Cut) (es : List LogEntry) (log : IsLogOf o c es) whe
           let x = prepares_is t m.0 m.2 in
           let there : Contains (marks_for i) (Prepared t x.0 x.1) = subst (λ (y : Mark). Contains (marks_for i) y) x.2 m.1 in
           let legal = legal_left c left (place_of c.parts i) in
-          let same : Prepared t x.0 x.1 ≡ Prepared t p.0 p.1 = some_same
-          (sym (prepared_once ms legal t x.0 x.1 (from_cut i (Prepared t x.0 x.1) there)) ∙ prepared_once ms legal t p.0 p.1 p.2) in
+          let had : find (prepares t) ms ≡ Some (Prepared t x.0 x.1) = prepared_once ms legal t x.0 x.1 (from_cut i (Prepared t x.0 x.1) there) in
+          let wrote : find (prepares t) ms ≡ Some (Prepared t p.0 p.1) = prepared_once ms legal t p.0 p.1 p.2 in
+          let same : Prepared t x.0 x.1 ≡ Prepared t p.0 p.1 = some_same (sym had ∙ wrote) in
           newest_above hs i (first_kept o.items i) (marks_for i) t p.0 p.1 v
           (subst (λ (y : Mark). Contains (marks_for i) y) same there) (logged_throughout t p.1 each) p.3
 

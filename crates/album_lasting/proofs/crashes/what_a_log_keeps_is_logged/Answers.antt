@@ -1,4 +1,3 @@
-use Rattle.std.proofs.Common.{get_or}
 use Rattle.album_lasting.proofs.crashes.what_a_log_keeps_is_logged.Goals as goal
 
 pub returns : goal.returns
