@@ -45,11 +45,11 @@ class Counts(unittest.TestCase):
 
 class Lanes(unittest.TestCase):
     def test_there_is_one_a_processor_where_memory_suffices(self):
-        self.assertEqual(4, check.lanes(4, 20_000_000))
+        self.assertEqual(4, check.lanes(4, 22_000_000))
         self.assertEqual(2, check.lanes(2, 64_000_000))
 
     def test_there_are_as_many_as_memory_holds_and_one_at_least(self):
-        self.assertEqual(3, check.lanes(4, 19_999_999))
+        self.assertEqual(3, check.lanes(4, 21_999_999))
         self.assertEqual(1, check.lanes(4, 1_000_000))
 
 
